@@ -6,7 +6,7 @@ use Rattle.plist_object.specs.Objects.{Held, holds_scalar, holds_list, holds_tab
 use Rattle.plist_object.specs.Spelled.{SpellItems, SpellPairs}
 use Rattle.ostep_lex.specs.Lexeme.{Lexeme, Placed, brace_open, brace_close, paren_open, paren_close, semicolon, equals, text as string, octets as data_token}
 use Rattle.ostep_lex.specs.Lexing.{HasTokens}
-use Rattle.ostep_lex.specs.Cursor.{StandsBehind}
+use Rattle.ostep_lex.specs.Cursor.{IsAfter}
 use Rattle.ostep_lex.specs.declared.cursor.Cursor.{Cursor}
 use Rattle.ostep_text.proofs.SortingSteps.{pairs-ascend}
 use Rattle.ostep_text.proofs.ReadSteps.{string-read, data-read, list-read, table-read, no-items-read, EndsItem, item-read, items-read, ended-read, row-read, alone-read, no-rows-read, row-more-read, rows-read, whole-phrase, rows-phrase}
@@ -25,15 +25,15 @@ more-even keys values k v e g even =
 
 -- the second cursor is one token after the first
 abbrev pub StepsBy : List ℕ → Cursor → Placed → Cursor → Type 0
-StepsBy octets old token new = (all : List Placed) → StandsBehind octets all old → StandsBehind octets (all ++ token ∷ []) new
+StepsBy octets old token new = (all : List Placed) → IsAfter octets all old → IsAfter octets (all ++ token ∷ []) new
 
 pub drafts-text : {octets : List ℕ} {old new : List Held} {cursor : Cursor} (tokens : List Placed) (first : Placed) (units : List ℕ) (number : ℕ) → first.lexeme ≡ string units
-    → StandsBehind octets (tokens ++ first ∷ []) cursor → Puts old new (holds_scalar (text units)) number → DraftsValue octets tokens first.lexeme number new cursor
+    → IsAfter octets (tokens ++ first ∷ []) cursor → Puts old new (holds_scalar (text units)) number → DraftsValue octets tokens first.lexeme number new cursor
 drafts-text {octets} {cursor = cursor} tokens first units number e h put = λ f holds v valid s.
     subst (λ x. ReadsValue octets tokens first.lexeme x cursor) (sym (scalar-spelled f number (text units) v (holds number (holds_scalar (text units)) put.tells) s)) (string-read tokens first units e h)
 
 pub drafts-data : {octets : List ℕ} {old new : List Held} {cursor : Cursor} (tokens : List Placed) (first : Placed) (xs : List ℕ) (number : ℕ) → first.lexeme ≡ data_token xs
-    → StandsBehind octets (tokens ++ first ∷ []) cursor → Puts old new (holds_scalar (bytes xs)) number → DraftsValue octets tokens first.lexeme number new cursor
+    → IsAfter octets (tokens ++ first ∷ []) cursor → Puts old new (holds_scalar (bytes xs)) number → DraftsValue octets tokens first.lexeme number new cursor
 drafts-data {octets} {cursor = cursor} tokens first xs number e h put = λ f holds v valid s.
     subst (λ x. ReadsValue octets tokens first.lexeme x cursor) (sym (scalar-spelled f number (bytes xs) v (holds number (holds_scalar (bytes xs)) put.tells) s)) (data-read tokens first xs e h)
 
@@ -58,7 +58,7 @@ no-items : (f : List ℕ) (vs : Items) → SpellItems f [] vs → vs ≡ no_item
 no-items f no_items s = refl
 no-items f (item v vs) s = absurd s
 
-pub drafts-none : {octets : List ℕ} {tokens : List Placed} {cursor : Cursor} (helds : List Held) (refs : List ℕ) → refs ≡ [] → StandsBehind octets tokens cursor
+pub drafts-none : {octets : List ℕ} {tokens : List Placed} {cursor : Cursor} (helds : List Held) (refs : List ℕ) → refs ≡ [] → IsAfter octets tokens cursor
     → DraftsItems octets tokens [] refs helds cursor
 drafts-none {octets} {tokens} {cursor} helds refs e h = λ f holds vs valid s.
     subst (λ x. ReadsItems octets tokens [] x cursor) (sym (no-items f vs (subst (λ l. SpellItems f l vs) e s))) (no-items-read h)
@@ -69,7 +69,7 @@ drafts-end helds refs token e d step = λ f holds vs valid s. let r = d f holds 
 
 module _ {octets : List ℕ} {tokens : List Placed} {begin first_read value_read after : Cursor} (old new : List Held) (refs all_refs : List ℕ) (number : ℕ) (first token : Placed)
     (is : all_refs ≡ refs ++ number ∷ []) (kept : AllRemain old new) (before : DraftsItems octets tokens [] refs old begin) (steps : StepsBy octets begin first first_read)
-    (value : (all : List Placed) → StandsBehind octets (all ++ first ∷ []) first_read → DraftsValue octets all first.lexeme number new value_read)
+    (value : (all : List Placed) → IsAfter octets (all ++ first ∷ []) first_read → DraftsValue octets all first.lexeme number new value_read)
     (behind : StepsBy octets value_read token after) where
   pub drafts-more : {l : Lexeme} {end : List Lexeme} → EndsItem l end → token.lexeme ≡ l → DraftsItems octets tokens end all_refs new after
   drafts-more {end = end} ends e f holds vs valid s =
@@ -91,7 +91,7 @@ drafts-row {octets} {after} old mid new tokens at token units number value l e p
     subst (λ x. ReadsRow octets tokens x v after) (sym is) (row-read tokens at token units l e (d f holds v valid s))
 
 pub drafts-alone : {octets : List ℕ} {after : Cursor} (old new : List Held) (tokens : List Placed) (at token : Placed) (units : List ℕ) (number : ℕ) → at.lexeme ≡ string units
-    → token.lexeme ≡ semicolon → StandsBehind octets ((tokens ++ at ∷ []) ++ token ∷ []) after → Puts old new (holds_scalar (text units)) number
+    → token.lexeme ≡ semicolon → IsAfter octets ((tokens ++ at ∷ []) ++ token ∷ []) after → Puts old new (holds_scalar (text units)) number
     → DraftsRow octets tokens (number, number) new after
 drafts-alone {octets} {after} old new tokens at token units number l e h put = λ f holds key v valid k s.
     let there = holds number (holds_scalar (text units)) put.tells in
@@ -102,7 +102,7 @@ no-pairs : (f : List ℕ) (rows : Pairs) → SpellPairs f [] rows → rows ≡ n
 no-pairs f no_pairs s = refl
 no-pairs f (pair key v rows) s = absurd s
 
-pub drafts-no-rows : {octets : List ℕ} {tokens : List Placed} {cursor : Cursor} (helds : List Held) (keys values : List ℕ) → keys ≡ [] → values ≡ [] → StandsBehind octets tokens cursor
+pub drafts-no-rows : {octets : List ℕ} {tokens : List Placed} {cursor : Cursor} (helds : List Held) (keys values : List ℕ) → keys ≡ [] → values ≡ [] → IsAfter octets tokens cursor
     → DraftsRows octets tokens [] keys values helds cursor
 drafts-no-rows {octets} {tokens} {cursor} helds keys values e g h = λ f holds rows valid s.
     let none : SpellPairs f (zip [] []) rows = subst (λ l. SpellPairs f (zip [] l) rows) g (subst (λ l. SpellPairs f (zip l values) rows) e s) in
@@ -115,7 +115,7 @@ drafts-rows-end helds keys values token e d step = λ f holds rows valid s. let 
 module _ {octets : List ℕ} {tokens : List Placed} {begin key_read after : Cursor} (old new : List Held) (keys all_keys values all_values : List ℕ) (row : ℕ × ℕ) (at : Placed)
     (keys_are : all_keys ≡ keys ++ row.0 ∷ []) (values_are : all_values ≡ values ++ row.1 ∷ []) (even : length keys ≡ length values) (kept : AllRemain old new)
     (before : DraftsRows octets tokens [] keys values old begin) (steps : StepsBy octets begin at key_read)
-    (reads : (all : List Placed) → StandsBehind octets (all ++ at ∷ []) key_read → DraftsRow octets all row new after) where
+    (reads : (all : List Placed) → IsAfter octets (all ++ at ∷ []) key_read → DraftsRow octets all row new after) where
   pub drafts-row-more : DraftsRows octets tokens [] all_keys all_values new after
   drafts-row-more f holds rows valid s =
       let l = last-row f (zip keys values) row rows (subst (λ x. SpellPairs f x rows) (zip-more keys all_keys values all_values row keys_are values_are even) s) in
@@ -126,13 +126,13 @@ module _ {octets : List ℕ} {tokens : List Placed} {begin key_read after : Curs
 
 -- complete texts
 pub value-drafts : {octets : List ℕ} {first : Lexeme} {cursor : Cursor} (helds : List Held) (number : ℕ) → DraftsValue octets [] first number helds cursor
-    → ((all : List Placed) → StandsBehind octets all cursor → HasTokens octets all) → DraftsText octets number helds
+    → ((all : List Placed) → IsAfter octets all cursor → HasTokens octets all) → DraftsText octets number helds
 value-drafts helds number d ends = λ f holds v valid s.
     let r = d f holds v valid s in
     record { tokens = r.reads.all; has = ends r.reads.all r.reads.has; phrase = whole-phrase r }
 
 pub rows-draft : {octets : List ℕ} {cursor : Cursor} (old new : List Held) (keys values : List ℕ) (number : ℕ) → DraftsRows octets [] [] keys values old cursor
-    → ((all : List Placed) → StandsBehind octets all cursor → HasTokens octets all) → Puts old new (holds_table keys values) number → DraftsText octets number new
+    → ((all : List Placed) → IsAfter octets all cursor → HasTokens octets all) → Puts old new (holds_table keys values) number → DraftsText octets number new
 rows-draft {octets} old new keys values number d ends put = λ f holds v valid s.
     let t = table-spelled f number keys values v (holds number (holds_table keys values) put.tells) s in
     let are : ArePairs t.pairs = subst IsPlist t.is valid in

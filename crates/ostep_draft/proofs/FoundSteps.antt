@@ -8,8 +8,8 @@ use Rattle.plist_value.specs.Plist.{text, bytes, Plist, list, table, Items, item
 use Rattle.plist_value.specs.Limits.{nodes, nodes_of_items, nodes_of_pairs, depth, depth_of_items, depth_of_pairs, Fits}
 use Rattle.plist_value.specs.declared.TheConstants.{MAX_NODES, MAX_DEPTH}
 use Rattle.plist_object.specs.Objects.{Held, holds_scalar, holds_list, holds_table}
-use Rattle.plist_draft.specs.Told.{Tells, SpellsIn, SpellItemsIn, SpellPairsIn}
-use Rattle.plist_draft.proofs.Telling.{SpellsBy-told, SpellItemsBy-told, SpellPairsBy-told}
+use Rattle.plist_draft.specs.Encoded.{HasContent, SpellsIn, SpellItemsIn, SpellPairsIn}
+use Rattle.plist_draft.proofs.Telling.{SpellsBy-encoded, SpellItemsBy-encoded, SpellPairsBy-encoded}
 use Rattle.ostep_lex.specs.Lexeme.{Lexeme, brace_close, paren_close, comma, text as string, octets as data_token}
 use Rattle.ostep_lex.specs.declared.cursor.Cursor.{Cursor}
 use Rattle.ostep_text.specs.Phrase.{Phrase, ItemsPhrase, RowsPhrase}
@@ -45,7 +45,7 @@ data-found {octets} {cursor = cursor} {rest} {behind} {v} {new = new} first xs n
     (subst (λ x. SpellsIn new number x) (sym is.0) put.tells, subst (λ x. AreLeft octets cursor x) is.1 l, omega (arith, one, d.nodes_left))
 
 pub list-found : (items : Items) (old new : List Held) (refs : List ℕ) (number : ℕ) → SpellItemsIn old refs items → Puts old new (holds_list refs) number → SpellsIn new number (list items)
-list-found items old new refs number s put = (refs, (put.tells, SpellItemsBy-told (Tells old) (Tells new) put.kept refs items s))
+list-found items old new refs number s put = (refs, (put.tells, SpellItemsBy-encoded (HasContent old) (HasContent new) put.kept refs items s))
 
 -- what is allowed in an array, and in a dictionary
 pub in-list : {levels left spare : ℕ} {v : Plist} {items : Items} → v ≡ list items → Allows (1 + levels) (1 + left) (depth v) (nodes v) spare
@@ -95,7 +95,7 @@ pub table-found : (rows pairs : Pairs) (old new : List Held) (keys values : List
     → Puts old new (holds_table keys values) number → SpellsIn new number (table pairs)
 table-found rows pairs old new keys values number r s put =
     let o = reorder (zip keys values) r s in
-    (keys, (values, (o.moved, (put.tells, (o.permuted, SpellPairsBy-told (Tells old) (Tells new) put.kept o.moved pairs o.spell)))))
+    (keys, (values, (o.moved, (put.tells, (o.permuted, SpellPairsBy-encoded (HasContent old) (HasContent new) put.kept o.moved pairs o.spell)))))
 
 -- the items not yet read: once references encode them, those so far and these encode all items
 pub record ItemsLeft (octets : List ℕ) (levels allowed spare : ℕ) (cursor : Cursor) (helds : List Held) (refs : List ℕ) (vs : Items) (behind : List Lexeme) : Type 0 where
@@ -144,7 +144,7 @@ module _ {octets : List ℕ} {levels allowed now spare : ℕ} {cursor : Cursor} 
   more-items : (helds : List Held) (more : List ℕ) → AllRemain new helds → SpellItemsIn helds more b.others → SpellItemsIn helds (all_refs ++ more) vs
   more-items helds more k s =
       let one : SpellItemsIn helds (number ∷ more) i.others =
-      subst (λ x. SpellItemsIn helds (number ∷ more) x) (sym b.is) (SpellsBy-told (Tells new) (Tells helds) k number b.first spelled, s) in
+      subst (λ x. SpellItemsIn helds (number ∷ more) x) (sym b.is) (SpellsBy-encoded (HasContent new) (HasContent helds) k number b.first spelled, s) in
       let same : refs ++ number ∷ more ≡ all_refs ++ more = sym (append_assoc refs (number ∷ []) more) ∙ ap (λ x. x ++ more) (sym is) in
       subst (λ x. SpellItemsIn helds x vs) same (i.spells helds (number ∷ more) (λ n held h. k n held (kept n held h)) one)
 
@@ -236,14 +236,14 @@ rows-next {ps = ps} row old new keys all_keys values all_values i b keys_are val
   allows = record { deep_enough = (of-row b.is i.allows).1; nodes_left = r.2 };
   spells = λ helds more k s.
       let one : SpellPairsIn helds (row ∷ more) i.others =
-      subst (λ x. SpellPairsIn helds (row ∷ more) x) (sym b.is) (k row.0 (holds_scalar (text b.key)) r.0.0, SpellsBy-told (Tells new) (Tells helds) k row.1 b.value r.0.1, s) in
+      subst (λ x. SpellPairsIn helds (row ∷ more) x) (sym b.is) (k row.0 (holds_scalar (text b.key)) r.0.0, SpellsBy-encoded (HasContent new) (HasContent helds) k row.1 b.value r.0.1, s) in
       let same : zip keys values ++ row ∷ more ≡ zip all_keys all_values ++ more =
       sym (append_assoc (zip keys values) (row ∷ []) more) ∙ ap (λ x. x ++ more) (sym (zip-more keys all_keys values all_values row keys_are values_are even)) in
       subst (λ x. SpellPairsIn helds x ps) same (i.spells helds (row ∷ more) (λ n held h. k n held (kept n held h)) one);
 }
 
 -- a key that was put
-pub key-tells : (old new : List Held) (number : ℕ) (lexeme : Lexeme) (key : List ℕ) → lexeme ≡ string key → PutsString lexeme old new number → Tells new number (holds_scalar (text key))
+pub key-tells : (old new : List Held) (number : ℕ) (lexeme : Lexeme) (key : List ℕ) → lexeme ≡ string key → PutsString lexeme old new number → HasContent new number (holds_scalar (text key))
 key-tells old new number lexeme key e put =
     let same : put.units ≡ key = let is = put.is in cc (is, e) in
-    subst (λ x. Tells new number (holds_scalar (text x))) same put.put.tells
+    subst (λ x. HasContent new number (holds_scalar (text x))) same put.put.tells

@@ -8,7 +8,7 @@ use Rattle.plist_value.specs.Plist.{Plist}
 use Rattle.ostep_lex.specs.Lexeme.{Lexeme, Placed, placed, text as string}
 use Rattle.ostep_lex.specs.Lexing.{HasTokens, HasNoTokens}
 use Rattle.ostep_lex.specs.Cursor as Lexer
-use Rattle.ostep_lex.specs.Cursor.{AddsToken, StandsBehind}
+use Rattle.ostep_lex.specs.Cursor.{AddsToken, IsAfter}
 use Rattle.ostep_lex.specs.declared.cursor.Cursor.{Cursor}
 use Rattle.ostep_lex.specs.declared.fault.LexFault.{LexFault}
 use Rattle.ostep_lex.specs.declared.token.Token.{Token}
@@ -21,7 +21,7 @@ use Rattle.ostep_draft.specs.declared.failure.NoDraft.TheVariants.{NoValue, OutO
 
 -- a token was taken
 pub first-left : {octets : List ℕ} {old new : Cursor} {tokens : List Lexeme} (token : Placed) → AreLeft octets old tokens
-    → ((all : List Placed) → StandsBehind octets all old → StandsBehind octets (all ++ token ∷ []) new) → IsFirst octets token.lexeme tokens new
+    → ((all : List Placed) → IsAfter octets all old → IsAfter octets (all ++ token ∷ []) new) → IsFirst octets token.lexeme tokens new
 first-left {octets} token l step =
     let stands = step l.before l.stands in
     let c = tokens_continue octets (l.before ++ token ∷ []) (l.before ++ l.others) _ stands.before l.has in
@@ -43,14 +43,14 @@ added-left {octets} {new = new} {tokens} a l = subst (λ x. IsFirst octets x tok
 
 -- there is no other token
 pub none-left : {octets : List ℕ} {cursor : Cursor} {tokens : List Lexeme} → AreLeft octets cursor tokens
-    → ((all : List Placed) → StandsBehind octets all cursor → HasTokens octets all) → tokens ≡ []
+    → ((all : List Placed) → IsAfter octets all cursor → HasTokens octets all) → tokens ≡ []
 none-left {octets} l ends =
     let same : l.before ++ l.others ≡ l.before = one_lexing octets (l.before ++ l.others) l.before l.has (ends l.before l.stands) in
     let none : l.others ≡ [] = append_cancel_left l.before l.others [] (same ∙ sym (append-nil l.before)) in
     sym l.are ∙ ap lexemes none
 
 -- all tokens of a text are left at its start
-pub all-left : {octets : List ℕ} {cursor : Cursor} {v : Plist} → StandsBehind octets [] cursor → (t : IsText octets v) → AreLeft octets cursor (lexemes t.tokens)
+pub all-left : {octets : List ℕ} {cursor : Cursor} {v : Plist} → IsAfter octets [] cursor → (t : IsText octets v) → AreLeft octets cursor (lexemes t.tokens)
 all-left h t = record { before = []; others = t.tokens; stands = h; has = t.has; are = refl }
 
 -- a fault of the tokens, which have none, is out of memory
@@ -88,7 +88,7 @@ no-tokens octets (Err e) none = λ is v t. none t.tokens t.has
 -- whether another token follows a string at the start
 pub bare-then : {octets : List ℕ} {cursor : Cursor} {rest : List Lexeme} (tokens : List Lexeme) (units : List ℕ) (found : Option (Token × Cursor)) → tokens ≡ string units ∷ rest
     → AreLeft octets cursor rest
-    → ((all : List Placed) → StandsBehind octets all cursor → MatchOption found (HasTokens octets all) (λ token. StandsBehind octets (all ++ placed token.0 ∷ []) token.1))
+    → ((all : List Placed) → IsAfter octets all cursor → MatchOption found (HasTokens octets all) (λ token. IsAfter octets (all ++ placed token.0 ∷ []) token.1))
     → is_some found ≡ is_bare tokens
 bare-then tokens units None e l ok = sym (ap is_bare (e ∙ ap (λ x. string units ∷ x) (none-left l ok)))
 bare-then tokens units (Some token) e l ok = let f = first-left (placed token.0) l ok in sym (ap is_bare (e ∙ ap (λ x. string units ∷ x) f.is))

@@ -7,7 +7,7 @@ use Rattle.plist_object.specs.Objects.{Held, holds_scalar, holds_list, holds_tab
 use Rattle.plist_object.specs.Places.{Holds}
 use Rattle.plist_object.specs.Spelled.{Spells, SpellItems, SpellPairs}
 use Rattle.plist_object.proofs.Uniqueness.{same_held}
-use Rattle.plist_draft.proofs.Telling.{Tells-append, Tells-last}
+use Rattle.plist_draft.proofs.Telling.{HasContent-append, HasContent-last}
 use Rattle.ostep_text.proofs.PhraseSteps.{push_row}
 use Rattle.plist_value.proofs.Items.{push}
 use Rattle.ostep_draft.specs.Held.{AllRemain, HoldsAll, Puts}
@@ -17,9 +17,9 @@ pub puts : (old new : List Held) (held : Held) (number : ℕ) → new ≡ old ++
 puts old new held number e n =
     let long = ap length e ∙ length-append old (held ∷ []) in
     record {
-      tells = rw (e, n) (Tells-last old held);
+      tells = rw (e, n) (HasContent-last old held);
       within = omega arith;
-      kept = λ i other t. rw e (Tells-append old (held ∷ []) i other t);
+      kept = λ i other t. rw e (HasContent-append old (held ∷ []) i other t);
     }
 
 -- a file that contains the new objects contains the old ones

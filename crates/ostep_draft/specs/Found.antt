@@ -6,7 +6,7 @@ use Rattle.std.specs.List.{zip}
 use Rattle.plist_value.specs.Plist.{Plist, Items, Pairs, text}
 use Rattle.plist_value.specs.Limits.{nodes, nodes_of_items, nodes_of_pairs, depth, depth_of_items, depth_of_pairs}
 use Rattle.plist_object.specs.Objects.{Held, holds_scalar}
-use Rattle.plist_draft.specs.Told.{Tells, SpellsIn, SpellItemsIn, SpellPairsIn}
+use Rattle.plist_draft.specs.Encoded.{HasContent, SpellsIn, SpellItemsIn, SpellPairsIn}
 use Rattle.ostep_lex.specs.Lexeme.{Lexeme, paren_close, brace_close, semicolon}
 use Rattle.ostep_lex.specs.declared.cursor.Cursor.{Cursor}
 use Rattle.ostep_text.specs.Phrase.{Phrase, ItemsPhrase, RowPhrase, RowsPhrase}
@@ -38,7 +38,7 @@ FindsItems levels before after old new helds result =
 
 -- the content of the row's objects
 abbrev pub SpellsRow : List Held → ℕ × ℕ → List ℕ → Plist → Type 0
-SpellsRow helds row key v = Tells helds row.0 (holds_scalar (text key)) × SpellsIn helds row.1 v
+SpellsRow helds row key v = HasContent helds row.0 (holds_scalar (text key)) × SpellsIn helds row.1 v
 
 abbrev pub FindsRow : Lexeme → ℕ → ℕ → ℕ → Cursor → Cursor → List Held → Result (ℕ × ℕ) NoDraft → Type 0
 FindsRow first levels before after old new helds result =

@@ -2,7 +2,7 @@
 use Rattle.std.specs.Prelude.{◌≡◌, ℕ, Bool, true, false, List, [], ◌∷◌, ◌++◌, Result, MatchResult}
 use Rattle.ostep_lex.specs.Lexeme.{Lexeme, Placed, text as string}
 use Rattle.ostep_lex.specs.Lexing.{HasTokens}
-use Rattle.ostep_lex.specs.Cursor.{StandsBehind}
+use Rattle.ostep_lex.specs.Cursor.{IsAfter}
 use Rattle.ostep_lex.specs.declared.cursor.Cursor.{Cursor}
 use Rattle.ostep_text.specs.Text.{lexemes}
 use Rattle.ostep_draft.specs.declared.failure.NoDraft.{NoDraft}
@@ -12,7 +12,7 @@ use Rattle.ostep_draft.specs.declared.failure.NoDraft.TheVariants.{OutOfMemory}
 pub record AreLeft (octets : List ℕ) (cursor : Cursor) (rest : List Lexeme) : Type 0 where
   pub before : List Placed
   pub others : List Placed
-  pub stands : StandsBehind octets before cursor
+  pub stands : IsAfter octets before cursor
   pub has : HasTokens octets (before ++ others)
   pub are : lexemes others ≡ rest
 

@@ -6,11 +6,11 @@ ghost use Rattle.plist_value.specs.Plist.{Plist, Pairs, table, text as one_text,
 ghost use Rattle.plist_value.specs.Limits.{depth, nodes};
 ghost use Rattle.plist_value.specs.Texts.{units_of};
 ghost use Rattle.plist_object.specs.Objects.{holds_scalar, holds_list, holds_table};
-ghost use Rattle.plist_draft.specs.Told.{SpellsIn};
+ghost use Rattle.plist_draft.specs.Encoded.{SpellsIn};
 ghost use Rattle.plist_draft.specs.View.{objects};
 ghost use Rattle.ostep_lex.specs.Lexeme.{Lexeme, Placed, lexeme_of, paren_close, brace_close};
 ghost use Rattle.ostep_lex.specs.Lexeme.{text as string};
-ghost use Rattle.ostep_lex.specs.Cursor.{ahead, StandsBehind};
+ghost use Rattle.ostep_lex.specs.Cursor.{ahead, IsAfter};
 ghost use Rattle.ostep_text.specs.Phrase.{Phrase, RowsPhrase, TopPhrase};
 ghost use Rattle.ostep_text.specs.Sorting.{AreSorted};
 ghost use Rattle.ostep_draft.specs.declared.failure.NoDraft.TheVariants.{NoValue, OutOfMemory};
@@ -48,7 +48,7 @@ impl<'a> Reader<'a> {
     // Appends the value of the complete text and returns its number.
     pub(crate) fn text(&mut self) -> Result<u32, NoDraft>
         ensures within { IfOk result (λ top. top < length (objects self.new.draft)) }
-        ensures read { (octets : List ℕ) → StandsBehind octets [] self.old.tokens.cursor
+        ensures read { (octets : List ℕ) → IsAfter octets [] self.old.tokens.cursor
             → IfOk result (λ top. DraftsText octets top (objects self.new.draft)) }
         ensures found { (octets : List ℕ) (tokens : List Lexeme)
             → AreLeft octets self.old.tokens.cursor tokens → (v : Plist) → TopPhrase tokens v
@@ -65,7 +65,7 @@ impl<'a> Reader<'a> {
     // Reads a text that is one value, and returns its number.
     fn whole_value(&mut self) -> Result<u32, NoDraft>
         ensures within { IfOk result (λ top. top < length (objects self.new.draft)) }
-        ensures read { (octets : List ℕ) → StandsBehind octets [] self.old.tokens.cursor
+        ensures read { (octets : List ℕ) → IsAfter octets [] self.old.tokens.cursor
             → IfOk result (λ top. DraftsText octets top (objects self.new.draft)) }
         ensures found { (octets : List ℕ) (tokens : List Lexeme)
             → AreLeft octets self.old.tokens.cursor tokens → (v : Plist) → Phrase tokens v []
@@ -83,7 +83,7 @@ impl<'a> Reader<'a> {
     // Reads a text that is a dictionary without braces, and returns its number.
     fn bare_table(&mut self) -> Result<u32, NoDraft>
         ensures within { IfOk result (λ top. top < length (objects self.new.draft)) }
-        ensures read { (octets : List ℕ) → StandsBehind octets [] self.old.tokens.cursor
+        ensures read { (octets : List ℕ) → IsAfter octets [] self.old.tokens.cursor
             → IfOk result (λ top. DraftsText octets top (objects self.new.draft)) }
         ensures found { (octets : List ℕ) (tokens : List Lexeme)
             → AreLeft octets self.old.tokens.cursor tokens → (rows pairs : Pairs)
@@ -112,7 +112,7 @@ impl<'a> Reader<'a> {
         ensures within { IfOk result (λ number. number < length (objects self.new.draft)) }
         ensures read { (octets : List ℕ) (tokens : List Placed) (at : Placed)
             → at.lexeme ≡ first_lexeme first.entry
-            → StandsBehind octets (tokens ++ at ∷ []) self.old.tokens.cursor
+            → IsAfter octets (tokens ++ at ∷ []) self.old.tokens.cursor
             → IfOk result (λ number. DraftsValue octets tokens at.lexeme number
             (objects self.new.draft) self.new.tokens.cursor) }
         ensures found { FindsValue (first_lexeme first.entry) levels self.old.left self.new.left
@@ -138,7 +138,7 @@ impl<'a> Reader<'a> {
         ensures within { IfOk result (λ number. number < length (objects self.new.draft)) }
         ensures read { (octets : List ℕ) (tokens : List Placed) (at : Placed)
             → at.lexeme ≡ lexeme_of first.kind
-            → StandsBehind octets (tokens ++ at ∷ []) self.old.tokens.cursor
+            → IsAfter octets (tokens ++ at ∷ []) self.old.tokens.cursor
             → IfOk result (λ number. DraftsValue octets tokens at.lexeme number
             (objects self.new.draft) self.new.tokens.cursor) }
         ensures found { FindsValue (lexeme_of first.kind) (1 + levels) (1 + self.old.left)
@@ -167,7 +167,7 @@ impl<'a> Reader<'a> {
             (length (ahead self.new.tokens.cursor) ≤ length (ahead self.old.tokens.cursor)) }
         ensures kept { OnOk result (AllRemain (objects self.old.draft) (objects self.new.draft)) }
         ensures read { (octets : List ℕ) (tokens : List Placed)
-            → StandsBehind octets tokens self.old.tokens.cursor
+            → IsAfter octets tokens self.old.tokens.cursor
             → IfOk result (λ items. DraftsItems octets tokens (paren_close ∷ []) items.items
             (objects self.new.draft) self.new.tokens.cursor) }
         ensures found { FindsItems levels self.old.left self.new.left self.old.tokens.cursor
@@ -199,7 +199,7 @@ impl<'a> Reader<'a> {
         ensures even { IfOk result (λ rows.
             length rows.keys.items ≡ length rows.values.items) }
         ensures read { (octets : List ℕ) (tokens : List Placed)
-            → StandsBehind octets tokens self.old.tokens.cursor
+            → IsAfter octets tokens self.old.tokens.cursor
             → IfOk result (λ rows. DraftsRows octets tokens (brace_close ∷ []) rows.keys.items
             rows.values.items (objects self.new.draft) self.new.tokens.cursor) }
         ensures found { FindsRows levels self.old.left self.new.left self.old.tokens.cursor
@@ -226,7 +226,7 @@ impl<'a> Reader<'a> {
         ensures kept { OnOk result (AllRemain (objects self.old.draft) (objects self.new.draft)) }
         ensures read { (octets : List ℕ) (tokens : List Placed) (at : Placed)
             → at.lexeme ≡ first_lexeme key.entry
-            → StandsBehind octets (tokens ++ at ∷ []) self.old.tokens.cursor
+            → IsAfter octets (tokens ++ at ∷ []) self.old.tokens.cursor
             → IfOk result (λ row. DraftsRow octets tokens row
             (objects self.new.draft) self.new.tokens.cursor) }
         ensures found { FindsRow (first_lexeme key.entry) levels self.old.left self.new.left
@@ -255,7 +255,7 @@ impl<'a> Reader<'a> {
             (length (ahead self.new.tokens.cursor) ≤ length (ahead self.old.tokens.cursor)) }
         ensures kept { OnOk result (AllRemain (objects self.old.draft) (objects self.new.draft)) }
         ensures read { (octets : List ℕ) (tokens : List Placed)
-            → StandsBehind octets tokens self.old.tokens.cursor
+            → IsAfter octets tokens self.old.tokens.cursor
             → IfOk result (λ number. DraftsEnded octets tokens number
             (objects self.new.draft) self.new.tokens.cursor) }
         ensures found { FindsEnded levels self.old.left self.new.left self.old.tokens.cursor

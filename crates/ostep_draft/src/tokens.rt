@@ -4,7 +4,7 @@ ghost use Rattle.std.specs.Prelude.{MatchOption, IfNone, IfSome, IfOk};
 ghost use Rattle.std.specs.Result.{OnOk};
 ghost use Rattle.ostep_lex.specs.Lexeme.{Lexeme, Placed, placed, lexeme_of};
 ghost use Rattle.ostep_lex.specs.Lexing.{HasTokens};
-ghost use Rattle.ostep_lex.specs.Cursor.{ahead, AddsToken, StandsBehind};
+ghost use Rattle.ostep_lex.specs.Cursor.{ahead, AddsToken, IsAfter};
 ghost use Rattle.ostep_draft.specs.First.{first_lexeme, IsValid};
 ghost use Rattle.ostep_draft.specs.Left.{AreLeft, IsFirst, UnlessMemory, is_bare};
 
@@ -49,7 +49,7 @@ impl<'a> Tokens<'a> {
         ensures read { IfOk result (λ found. IfSome found (λ first.
             AddsToken (first_lexeme first) self.old.cursor self.new.cursor)) }
         ensures ends { (octets : List ℕ) (tokens : List Placed)
-            → StandsBehind octets tokens self.old.cursor
+            → IsAfter octets tokens self.old.cursor
             → IfOk result (λ found. IfNone found (HasTokens octets tokens)) }
         ensures found { (octets : List ℕ) (tokens : List Lexeme)
             → AreLeft octets self.old.cursor tokens
@@ -95,9 +95,9 @@ impl<'a> Tokens<'a> {
     #[inline(always)]
     pub(crate) fn expect_mark(&mut self, mark: char) -> Result<Token, NoDraft>
         ensures read { (octets : List ℕ) (tokens : List Placed)
-            → StandsBehind octets tokens self.old.cursor
+            → IsAfter octets tokens self.old.cursor
             → IfOk result (λ token.
-            StandsBehind octets (tokens ++ placed token ∷ []) self.new.cursor) }
+            IsAfter octets (tokens ++ placed token ∷ []) self.new.cursor) }
         ensures found { (octets : List ℕ) (tokens : List Lexeme)
             → AreLeft octets self.old.cursor tokens → tokens ≢ []
             → UnlessMemory result (λ token.

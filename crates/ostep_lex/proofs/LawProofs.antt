@@ -15,7 +15,7 @@ use Rattle.ostep_lex.specs.Lexeme
 use Rattle.ostep_lex.specs.Lexeme.{Lexeme, IsToken, Placed}
 use Rattle.ostep_lex.specs.Lexing.{Lexes, none, next, HasTokens, HasNoTokens}
 use Rattle.ostep_lex.specs.Stands
-use Rattle.ostep_lex.specs.Stands.{White, is_of_data, begins_xml, EscapeFault, QuotedFault, OctetsFault, FaultAt, FaultBehind, HasFault, HasXml, Stands}
+use Rattle.ostep_lex.specs.Stands.{White, is_of_data, begins_xml, EscapeFault, QuotedFault, OctetsFault, FaultAt, FaultAfterGap, HasFault, HasXml, Stands}
 use Rattle.ostep_lex.specs.Laws.{OneLexing, TokensContinue, FaultyHasNone}
 use Rattle.ostep_lex.specs.Digits.{number_from}
 use Rattle.ostep_lex.specs.Quoted
@@ -125,7 +125,7 @@ data-stands (Stands.other d) h = h
 data-stands (Stands.odd d e) h = h
 data-stands (Stands.piece e f) h = data-stands f h
 
-after-stands : {octets : List ℕ} {p : Places} {text : List ℕ} {f : LexFault} → FaultBehind p text f → HasFault octets f → Stands octets f
+after-stands : {octets : List ℕ} {p : Places} {text : List ℕ} {f : LexFault} → FaultAfterGap p text f → HasFault octets f → Stands octets f
 after-stands (Stands.gap g (Stands.quoted q f)) h = quoted-stands f h
 after-stands (Stands.gap g (Stands.data_token f)) h = data-stands f h
 after-stands _ h = h

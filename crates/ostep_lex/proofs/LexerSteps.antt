@@ -8,9 +8,9 @@ use Rattle.ostep_lex.specs.Gap
 use Rattle.ostep_lex.specs.Gap.{LineComment, BlockComment, NeverCloses, GapPiece, Gap, closes_comment, begins_gap, begins_comment}
 use Rattle.ostep_lex.specs.declared.cursor.Cursor.{Cursor}
 use Rattle.ostep_lex.specs.Encoding.{place, Places, places_of}
-use Rattle.ostep_lex.specs.Cursor.{ahead, places_in, place_at, SameInput, PassesPiece, PassesGap, PassesToken, Opens, StandsBehind, UnlessMemory, PassesStretch, PassesRun, PassesQuoted, AddsToken}
+use Rattle.ostep_lex.specs.Cursor.{ahead, places_in, place_at, SameInput, PassesPiece, PassesGap, PassesToken, Opens, IsAfter, UnlessMemory, PassesStretch, PassesRun, PassesQuoted, AddsToken}
 use Rattle.ostep_lex.specs.declared.fault.LexFault.TheVariants.{UnclosedComment, UnexpectedCharacter}
-use Rattle.ostep_lex.specs.Stands.{FaultAt, White, LacksMark, QuotedFault, OctetsFault, begins_other, FaultBehind, HasFault, HasXml, begins_xml, Stands}
+use Rattle.ostep_lex.specs.Stands.{FaultAt, White, LacksMark, QuotedFault, OctetsFault, begins_other, FaultAfterGap, HasFault, HasXml, begins_xml, Stands}
 use Rattle.ostep_lex.specs.Stands
 use Rattle.ostep_lex.specs.Lexeme.{Lexeme, mark_token, IsToken, Placed, placed}
 use Rattle.ostep_lex.specs.Quoted
@@ -224,8 +224,8 @@ pub placed_shorter : {token : Placed} {old new : Cursor} → PassesPlaced token 
 placed_shorter p = let h = gap_shorter p.gap in let k = token_shorter p.token_at in omega (arith, h, k)
 
 -- one token more, all tokens, and a fault
-pub after_more : {octets : List ℕ} {tokens : List Placed} {token : Placed} {old new : Cursor} → StandsBehind octets tokens old → PassesPlaced token old new
-    → StandsBehind octets (tokens ++ token ∷ []) new
+pub after_more : {octets : List ℕ} {tokens : List Placed} {token : Placed} {old new : Cursor} → IsAfter octets tokens old → PassesPlaced token old new
+    → IsAfter octets (tokens ++ token ∷ []) new
 after_more {octets} {tokens} {token} {old} {new} b t =
     let p = places_of octets in
     let start : token.start ≡ place p t.from = t.start ∙ ap (λ q. place q t.from) b.places in
@@ -240,24 +240,24 @@ after_more {octets} {tokens} {token} {old} {new} b t =
       places = t.input ∙ b.places;
     }
 
-pub after_all : {octets : List ℕ} {tokens : List Placed} {cursor : Cursor} → StandsBehind octets tokens cursor → Gap (ahead cursor) [] → HasTokens octets tokens
+pub after_all : {octets : List ℕ} {tokens : List Placed} {cursor : Cursor} → IsAfter octets tokens cursor → Gap (ahead cursor) [] → HasTokens octets tokens
 after_all b g = record { text = b.before.text; spells = b.before.spells; lexes = LexesTo-all b.before.lexes g }
 
-after_at : {octets : List ℕ} {tokens : List Placed} {cursor : Cursor} {fault : LexFault} → StandsBehind octets tokens cursor
-    → FaultBehind (places_in cursor) (ahead cursor) fault → HasFault octets fault
+after_at : {octets : List ℕ} {tokens : List Placed} {cursor : Cursor} {fault : LexFault} → IsAfter octets tokens cursor
+    → FaultAfterGap (places_in cursor) (ahead cursor) fault → HasFault octets fault
 after_at {tokens = tokens} {cursor = cursor} {fault = fault} b f = record {
   tokens = tokens;
   rest = ahead cursor;
   before = b.before;
-  stands = subst (λ p. FaultBehind p (ahead cursor) fault) b.places f;
+  stands = subst (λ p. FaultAfterGap p (ahead cursor) fault) b.places f;
 }
 
-pub after_stands : {octets : List ℕ} {tokens : List Placed} {cursor : Cursor} {fault : LexFault} → StandsBehind octets tokens cursor
-    → UnlessMemory (FaultBehind (places_in cursor) (ahead cursor)) fault → Stands octets fault
+pub after_stands : {octets : List ℕ} {tokens : List Placed} {cursor : Cursor} {fault : LexFault} → IsAfter octets tokens cursor
+    → UnlessMemory (FaultAfterGap (places_in cursor) (ahead cursor)) fault → Stands octets fault
 after_stands {octets} {fault = fault} b u = stands_unless octets fault (λ n. after_at b (u n))
 
-pub after_none : {octets : List ℕ} {tokens : List Placed} {cursor : Cursor} {fault : LexFault} → StandsBehind octets tokens cursor
-    → UnlessMemory (FaultBehind (places_in cursor) (ahead cursor)) fault → UnlessMemory (λ f. HasNoTokens octets) fault
+pub after_none : {octets : List ℕ} {tokens : List Placed} {cursor : Cursor} {fault : LexFault} → IsAfter octets tokens cursor
+    → UnlessMemory (FaultAfterGap (places_in cursor) (ahead cursor)) fault → UnlessMemory (λ f. HasNoTokens octets) fault
 after_none b u n = HasFault-none (after_at b (u n))
 
 -- one token more at the end of the tokens found
@@ -265,7 +265,7 @@ pub found_more : (found new : List Token) (token : Token) → new ≡ found ++ t
 found_more found new token e = sym (ap (map placed) e ∙ map-append placed found (token ∷ []))
 
 -- no token precedes the start
-pub opens_after : {octets : List ℕ} {cursor : Cursor} → Opens octets cursor → StandsBehind octets [] cursor
+pub opens_after : {octets : List ℕ} {cursor : Cursor} → Opens octets cursor → IsAfter octets [] cursor
 opens_after {cursor = cursor} o = record { before = record { text = ahead cursor; spells = o.spells; lexes = here }; places = o.places }
 
 pub opens_xml : {octets : List ℕ} (cursor after : Cursor) {at : ℕ} → Opens octets cursor → White (ahead cursor) (ahead after) → SameInput cursor after

@@ -25,7 +25,7 @@ use Rattle.ostep_lex.specs.Gap.{LineComment, BlockComment, NeverCloses, Gap, Gap
 use Rattle.ostep_lex.specs.Quoted
 use Rattle.ostep_lex.specs.Quoted.{Run as RunOf, Quoted, Piece, is_raw}
 use Rattle.ostep_lex.specs.Stands
-use Rattle.ostep_lex.specs.Stands.{QuotedFault, FaultBehind}
+use Rattle.ostep_lex.specs.Stands.{QuotedFault, FaultAfterGap}
 use Rattle.ostep_lex.specs.Cursor.{ahead, places_in, PassesStretch, SkipsStretch, PassesGap}
 use Rattle.ostep_lex.proofs.TextLemmas.{and_left, and_right, whole_utf8, octets_of-append, WholeText, WholeText-after, spelling_one, utf16_characters-spelling, units_in-first}
 
@@ -256,12 +256,12 @@ pub gap_after_white : {old new end : Cursor} → SkipsStretch White old new → 
 gap_after_white white passes =
     record { gap = gap_stretch white.passes passes.gap; whole = passes.whole; input = passes.input ∙ white.passes.input }
 
-fault_in_gap : {old new : Cursor} {front : List ℕ} {p : Places} {fault : LexFault} → PassesStretch White old front new → FaultBehind p (ahead new) fault → FaultBehind p (ahead old) fault
+fault_in_gap : {old new : Cursor} {front : List ℕ} {p : Places} {fault : LexFault} → PassesStretch White old front new → FaultAfterGap p (ahead new) fault → FaultAfterGap p (ahead old) fault
 fault_in_gap white (Stands.gap after at) = Stands.gap (gap_stretch white after) at
 
-pub fault_after_white : {old new : Cursor} {fault : LexFault} → SkipsStretch White old new → FaultBehind (places_in new) (ahead new) fault → FaultBehind (places_in old) (ahead old) fault
+pub fault_after_white : {old new : Cursor} {fault : LexFault} → SkipsStretch White old new → FaultAfterGap (places_in new) (ahead new) fault → FaultAfterGap (places_in old) (ahead old) fault
 fault_after_white {old} {new} {fault} white stands =
-    subst (λ p. FaultBehind p (ahead old) fault) white.passes.input (fault_in_gap white.passes stands)
+    subst (λ p. FaultAfterGap p (ahead old) fault) white.passes.input (fault_in_gap white.passes stands)
 
 pub line_stretch : {old new : Cursor} {front end : List ℕ} → PassesStretch Line old front new → LineComment (ahead new) end → LineComment (ahead old) end
 line_stretch {old} {new} {front} {end} p r = subst (λ t. LineComment t end) (sym p.text) (line_front front (ahead new) end p.stretch r)

@@ -13,7 +13,7 @@ use Rattle.std.specs.List.{starts_with}
 use Rattle.std.proofs.Math.Seq.{take-append_seam}
 use lib.Utf8.{scalar, scalar_cases, encode}
 use lib.Pointwise.{bytes_decides}
-use Rattle.ostep_lex.specs.Encoding.{Encoding, utf8, spelling, octets_of, BeginsWith, BeginsWithNone, StopsBehind, utf16_big, utf16_little, mark_of, encoding_of, Spells, StopsAt}
+use Rattle.ostep_lex.specs.Encoding.{Encoding, utf8, spelling, octets_of, BeginsWith, BeginsWithNone, StopsAfter, utf16_big, utf16_little, mark_of, encoding_of, Spells, StopsAt}
 use Rattle.ostep_lex.specs.Source.{FrontsOf, encoding_by, unit_octets, units_in, utf16_characters, characters_in, IsWhole, Leads}
 use Rattle.ostep_lex.specs.declared.source.ByteOrder.{ByteOrder}
 use Rattle.ostep_lex.specs.declared.source.ByteOrder.TheVariants.{Big, Little}
@@ -188,7 +188,7 @@ longer octets after n c v s e =
     let more : n < length front = omega (arith, length-append (take n octets) (encode c), length-take n octets, length-encode c, len_utf8_bounds c) in
     v.longest (length front) more (subst IsUtf8 (sym taken) (IsUtf8-append (take n octets) (encode c) v.front (IsUtf8-encode c s)))
 
-pub stops_utf8 : (octets : List ℕ) (end n : ℕ) → length octets ≤ end → IsValidUpTo octets n → StopsBehind utf8 octets end (end - length octets + n)
+pub stops_utf8 : (octets : List ℕ) (end n : ℕ) → length octets ≤ end → IsValidUpTo octets n → StopsAfter utf8 octets end (end - length octets + n)
 stops_utf8 octets end n fits v = record {
   before = v.front.0;
   rest = drop n octets;

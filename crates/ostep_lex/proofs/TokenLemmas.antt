@@ -5,7 +5,7 @@ use Rattle.std.proofs.lemmas.Bool.Decides.{nat_tests}
 use Rattle.ostep_lex.specs.Character.{is_white, is_run, is_quote, is_hexadecimal, backslash, greater_than}
 use Rattle.ostep_lex.specs.Quoted.{is_raw, Run, Escape, Piece, Quoted}
 use Rattle.ostep_lex.specs.Lexeme.{Lexeme, mark_token, IsToken, Placed}
-use Rattle.ostep_lex.specs.Stands.{is_of_data, begins_other, EscapeFault, QuotedFault, OctetsFault, FaultAt, FaultBehind}
+use Rattle.ostep_lex.specs.Stands.{is_of_data, begins_other, EscapeFault, QuotedFault, OctetsFault, FaultAt, FaultAfterGap}
 use Rattle.ostep_lex.specs.Gap.{LineComment, BlockComment, NeverCloses, GapPiece, Gap}
 use Rattle.ostep_lex.specs.declared.fault.LexFault.{LexFault}
 use Rattle.ostep_lex.specs.Encoding.{Places, place}
@@ -345,7 +345,7 @@ Lexes-same {p} (next g t r) (next {tokens = us} h u s) =
     let e = next-same g t h u in
     cc (e.0, e.1.means, e.1.leaves, Lexes-same r (subst (λ x. Lexes p x us) (sym e.1.leaves) s))
 
-pub after-fault : {p q : Places} {text : List ℕ} {f : LexFault} {ts : List Placed} → FaultBehind p text f → Lexes q text ts → ⊥
+pub after-fault : {p q : Places} {text : List ℕ} {f : LexFault} {ts : List Placed} → FaultAfterGap p text f → Lexes q text ts → ⊥
 after-fault (Stands.gap g t) (none h) = end-fault h g t
 after-fault (Stands.gap g t) (next h u s) = token-fault g t h u
 

@@ -46,7 +46,7 @@ pub record Opens (octets : List ℕ) (cursor : Cursor) : Type 0 where
   pub places : places_in cursor ≡ places_of octets
 
 -- the cursor is after these tokens of the input
-pub record StandsBehind (octets : List ℕ) (tokens : List Placed) (cursor : Cursor) : Type 0 where
+pub record IsAfter (octets : List ℕ) (tokens : List Placed) (cursor : Cursor) : Type 0 where
   pub before : BeginsWithTokens octets tokens (ahead cursor)
   pub places : places_in cursor ≡ places_of octets
 
@@ -55,7 +55,7 @@ pub record StandsBehind (octets : List ℕ) (tokens : List Placed) (cursor : Cur
 pub record AddsToken (lexeme : Lexeme) (old new : Cursor) : Type 0 where
   pub token : Placed
   pub is : token.lexeme ≡ lexeme
-  pub stands : (octets : List ℕ) (tokens : List Placed) → StandsBehind octets tokens old → StandsBehind octets (tokens ++ token ∷ []) new
+  pub stands : (octets : List ℕ) (tokens : List Placed) → IsAfter octets tokens old → IsAfter octets (tokens ++ token ∷ []) new
 
 -- whether the text begins with the character
 abbrev pub begins_with : ℕ → List ℕ → Bool

@@ -81,7 +81,7 @@ BeginsWithNone e octets = (c : ℕ) (after : List ℕ) → BeginsWith e octets c
 
 -- Complete characters precede the position, there is a byte at it, and no character begins there.
 -- The bytes are those after a byte order mark, and they end where the input ends.
-pub record StopsBehind (e : Encoding) (octets : List ℕ) (end at : ℕ) : Type 0 where
+pub record StopsAfter (e : Encoding) (octets : List ℕ) (end at : ℕ) : Type 0 where
   pub before : List ℕ
   pub rest : List ℕ
   pub whole : all_scalars before ≡ true
@@ -93,4 +93,4 @@ pub record StopsBehind (e : Encoding) (octets : List ℕ) (end at : ℕ) : Type 
 pub record StopsAt (octets : List ℕ) (at : ℕ) : Type 0 where
   pub text : List ℕ
   pub marked : octets ≡ mark_of octets ++ text
-  pub stops : StopsBehind (encoding_of octets) text (length octets) at
+  pub stops : StopsAfter (encoding_of octets) text (length octets) at

@@ -55,8 +55,8 @@ pub data FaultAt (p : Places) : List ℕ → LexFault → Type 0 where
   data_token : {rest : List ℕ} {fault : LexFault} → OctetsFault p rest fault → FaultAt p (less_than ∷ rest) fault
 
 -- after a gap
-pub data FaultBehind (p : Places) : List ℕ → LexFault → Type 0 where
-  gap : {text from : List ℕ} {fault : LexFault} → Gap text from → FaultAt p from fault → FaultBehind p text fault
+pub data FaultAfterGap (p : Places) : List ℕ → LexFault → Type 0 where
+  gap : {text from : List ℕ} {fault : LexFault} → Gap text from → FaultAt p from fault → FaultAfterGap p text fault
 
 -- whitespace characters, or nothing
 pub data White : List ℕ → List ℕ → Type 0 where
@@ -76,7 +76,7 @@ pub record HasFault (octets : List ℕ) (fault : LexFault) : Type 0 where
   pub tokens : List Placed
   pub rest : List ℕ
   pub before : BeginsWithTokens octets tokens rest
-  pub stands : FaultBehind (places_of octets) rest fault
+  pub stands : FaultAfterGap (places_of octets) rest fault
 
 -- the bytes are those of a text that begins, after whitespace, like an XML property list
 pub record HasXml (octets : List ℕ) (at : ℕ) : Type 0 where

@@ -23,7 +23,7 @@ impl<'a> Cursor<'a> {
     ghost use Rattle.ostep_lex.specs.Cursor.{PassesStretch, SkipsStretch, StretchAppends};
     ghost use Rattle.ostep_lex.specs.Cursor.{PassesPairs};
     ghost use Rattle.ostep_lex.specs.Cursor.{Holds, IsBadUtf8, IsBadUtf16};
-    ghost use Rattle.ostep_lex.specs.Encoding.{utf8, StopsBehind};
+    ghost use Rattle.ostep_lex.specs.Encoding.{utf8, StopsAfter};
     ghost use Rattle.ostep_lex.specs.Source.{encoding_by};
 
     /// Returns the offset in the input, byte order mark included.
@@ -131,7 +131,7 @@ impl<'a> Cursor<'a> {
     pub(crate) fn of_utf8(octets: &'a [u8], end: usize) -> Result<Cursor<'a>, LexFault>
         requires { length octets.now ≤ end }
         ensures ok { IfOk result (Holds utf8 octets.now end) }
-        ensures err { IfErr result (IsBadUtf8 (StopsBehind utf8 octets.now end)) }
+        ensures err { IfErr result (IsBadUtf8 (StopsAfter utf8 octets.now end)) }
     {
         match from_utf8(octets) {
             Ok(text) => Ok(Cursor {
@@ -153,7 +153,7 @@ impl<'a> Cursor<'a> {
     ) -> Result<Cursor<'a>, LexFault>
         requires { length octets.now ≤ end }
         ensures ok { IfOk result (Holds (encoding_by order) octets.now end) }
-        ensures err { IfErr result (IsBadUtf16 (StopsBehind (encoding_by order) octets.now end)) }
+        ensures err { IfErr result (IsBadUtf16 (StopsAfter (encoding_by order) octets.now end)) }
     {
         let rest = after_characters(order, octets);
         if !rest.is_empty() {

@@ -3,7 +3,7 @@ ghost use Rattle.std.specs.Prelude.{◌≡◌, false, ◌∷◌, IsTrue, MatchOp
 ghost use Rattle.ostep_lex.specs.Character.{slash as slash_code, star};
 ghost use Rattle.ostep_lex.specs.Gap.{LineComment, BlockComment, NeverCloses};
 ghost use Rattle.ostep_lex.specs.Gap.{closes_comment, begins_gap};
-ghost use Rattle.ostep_lex.specs.Stands.{FaultAt, FaultBehind};
+ghost use Rattle.ostep_lex.specs.Stands.{FaultAt, FaultAfterGap};
 ghost use Rattle.ostep_lex.specs.Cursor.{ahead, places_in, SameInput, PassesPiece, PassesGap};
 
 use crate::character::{is_line_end, is_white};
@@ -107,7 +107,7 @@ fn is_over(cursor: Cursor<'_>) -> bool
 #[inline(always)]
 pub fn gap(cursor: Cursor<'_>) -> Result<Cursor<'_>, LexFault>
     ensures ok { IfOk result (PassesGap cursor.entry) }
-    ensures err { IfErr result (FaultBehind (places_in cursor.entry) (ahead cursor.entry)) }
+    ensures err { IfErr result (FaultAfterGap (places_in cursor.entry) (ahead cursor.entry)) }
 {
     let rest = cursor.after_stretch(Class::White);
     if is_over(rest) {
@@ -121,7 +121,7 @@ pub fn gap(cursor: Cursor<'_>) -> Result<Cursor<'_>, LexFault>
 #[inline(never)]
 fn whole_gap(cursor: Cursor<'_>) -> Result<Cursor<'_>, LexFault>
     ensures ok { IfOk result (PassesGap cursor.entry) }
-    ensures err { IfErr result (FaultBehind (places_in cursor.entry) (ahead cursor.entry)) }
+    ensures err { IfErr result (FaultAfterGap (places_in cursor.entry) (ahead cursor.entry)) }
 {
     let mut rest = cursor;
     while let Some(after) = gap_piece(rest)? {

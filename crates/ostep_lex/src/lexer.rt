@@ -7,7 +7,7 @@ ghost use Rattle.ostep_lex.specs.Lexeme.{lexeme_of, mark_token, Placed, placed};
 ghost use Rattle.ostep_lex.specs.Lexing.{HasTokens, HasNoTokens};
 ghost use Rattle.ostep_lex.specs.Spans.{HasSpans};
 ghost use Rattle.ostep_lex.specs.Stands.{FaultAt, LacksMark, Stands};
-ghost use Rattle.ostep_lex.specs.Cursor.{ahead, places_in, PassesToken, StandsBehind, UnlessMemory};
+ghost use Rattle.ostep_lex.specs.Cursor.{ahead, places_in, PassesToken, IsAfter, UnlessMemory};
 
 use crate::character::{is_quote, is_run, is_white};
 use crate::cursor::Cursor;
@@ -79,17 +79,17 @@ pub fn next_token(
     cursor: Cursor<'_>,
 ) -> Result<Option<(Token, Cursor<'_>)>, LexFault>
     // If the cursor is after tokens of an input, these are all of its tokens, or there is one more.
-    ensures ok { (octets : List ℕ) (tokens : List Placed) → StandsBehind octets tokens cursor.entry
+    ensures ok { (octets : List ℕ) (tokens : List Placed) → IsAfter octets tokens cursor.entry
         → IfOk result (λ found. MatchOption found (HasTokens octets tokens)
-        (λ token. StandsBehind octets (tokens ++ placed token.0 ∷ []) token.1)) }
+        (λ token. IsAfter octets (tokens ++ placed token.0 ∷ []) token.1)) }
     // Each token has at least one character.
     ensures shorter { IfOk result (λ found.
         IfSome found (λ token. length (ahead token.1) < length (ahead cursor.entry))) }
     // The fault is true of that input, which has no tokens.
     ensures stands { (octets : List ℕ) (tokens : List Placed)
-        → StandsBehind octets tokens cursor.entry → IfErr result (Stands octets) }
+        → IsAfter octets tokens cursor.entry → IfErr result (Stands octets) }
     ensures refused { (octets : List ℕ) (tokens : List Placed)
-        → StandsBehind octets tokens cursor.entry
+        → IsAfter octets tokens cursor.entry
         → IfErr result (UnlessMemory (λ fault. HasNoTokens octets)) }
 {
     let start = gap(cursor)?;
@@ -112,8 +112,8 @@ pub fn next_token(
 pub fn next_mark(cursor: Cursor<'_>, mark: char) -> Option<(Token, Cursor<'_>)>
     // If the cursor is after tokens of an input, this is one more.
     ensures some { (octets : List ℕ) (tokens : List Placed)
-        → StandsBehind octets tokens cursor.entry
-        → IfSome result (λ token. StandsBehind octets (tokens ++ placed token.0 ∷ []) token.1) }
+        → IsAfter octets tokens cursor.entry
+        → IfSome result (λ token. IsAfter octets (tokens ++ placed token.0 ∷ []) token.1) }
     // It is that mark, and has at least one character.
     ensures kind { IfSome result (λ token.
         mark_token mark ≡ Some (lexeme_of token.0.kind)) }

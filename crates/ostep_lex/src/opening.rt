@@ -3,7 +3,7 @@ ghost use Rattle.std.specs.Prelude.{◌≡◌, [], nat_eq, IfOk, IfErr};
 ghost use Rattle.std.specs.List.{starts_with};
 ghost use Rattle.ostep_lex.specs.Lexing.{HasNoTokens};
 ghost use Rattle.ostep_lex.specs.Stands.{Stands, begins_xml, White};
-ghost use Rattle.ostep_lex.specs.Cursor.{ahead, SameInput, Opens, StandsBehind};
+ghost use Rattle.ostep_lex.specs.Cursor.{ahead, SameInput, Opens, IsAfter};
 
 use crate::character::is_white;
 use crate::cursor::Cursor;
@@ -80,7 +80,7 @@ fn begins_xml(cursor: Cursor<'_>) -> bool
 /// `BadUtf8` or `BadUtf16` if the bytes are not a text. Otherwise `XmlForm` if the text begins,
 /// after whitespace, with `<?xml`, `<!DOCTYPE` or `<plist`.
 pub fn open(octets: &[u8]) -> Result<Cursor<'_>, LexFault>
-    ensures ok { IfOk result (StandsBehind octets.now []) }
+    ensures ok { IfOk result (IsAfter octets.now []) }
     ensures stands { IfErr result (Stands octets.now) }
     // There are no tokens. This is true of every refusal, since none is out of memory.
     ensures refused { IfErr result (λ fault. HasNoTokens octets.now) }

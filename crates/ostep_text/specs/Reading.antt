@@ -7,7 +7,7 @@ use Rattle.plist_value.specs.Plist.{Plist, Items, Pairs, IsPlist, AreItems, AreP
 use Rattle.plist_value.specs.Limits.{nodes, depth, payload, nodes_of_items, depth_of_items, payload_of_items, nodes_of_pairs, depth_of_pairs, payload_of_pairs}
 use Rattle.ostep_lex.specs.Lexeme.{Lexeme, Placed}
 use Rattle.ostep_lex.specs.Lexing.{HasTokens}
-use Rattle.ostep_lex.specs.Cursor.{StandsBehind}
+use Rattle.ostep_lex.specs.Cursor.{IsAfter}
 use Rattle.ostep_text.specs.declared.fault.TextFault.{TextFault}
 use Rattle.ostep_text.specs.declared.fault.TextFault.TheVariants.{TooDeep, TooManyNodes, TooMuchPayload}
 use Rattle.ostep_text.specs.Sorting.{AreReordered}
@@ -19,7 +19,7 @@ use Rattle.ostep_text.specs.declared.tokens.Tokens.{Tokens}
 
 -- these tokens of the input were read
 pub record HasRead (octets : List ℕ) (tokens : List Placed) (source : Tokens) : Type 0 where
-  pub after : StandsBehind octets tokens source.cursor
+  pub after : IsAfter octets tokens source.cursor
   pub ends : source.end ≡ length octets
 
 -- the fault is true if the bytes have tokens

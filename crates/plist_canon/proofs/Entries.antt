@@ -6,8 +6,8 @@ use Rattle.std.proofs.lemmas.List.{get_or_at}
 use Rattle.plist_value.specs.Plist.{Plist, text, scalar, Items, no_items, item, Pairs, no_pairs, pair, AreItems, ArePairs, IsKeyBelow}
 use Rattle.plist_object.specs.Places.{Holds}
 use Rattle.plist_engine.specs.Sharing.{value_at}
-use Rattle.plist_engine.specs.Found.{Stands, held_at}
-use Rattle.plist_engine.proofs.Trees.{Stands-tail, Stands-all}
+use Rattle.plist_engine.specs.Found.{OccursAt, held_at}
+use Rattle.plist_engine.proofs.Trees.{OccursAt-tail, OccursAt-all}
 use Rattle.std.specs.Cmp.Lexicographic.{slice_cmp}
 use Rattle.std.specs.List.Sorted.{IsStrictlySortedBy}
 use Rattle.plist_value.specs.Limits.{nodes}
@@ -38,14 +38,14 @@ AreNumbers-same number other k [] same h = tt
 AreNumbers-same number other k (entry ∷ entries) same h =
     (sym (same k (omega arith) (omega arith)) ∙ h.0, AreNumbers-same number other (suc k) entries (λ j from below. same j (omega arith) (omega arith)) h.1)
 
-AreNumbers-stand : (all : List ℕ) (d k : ℕ) (rest : List ℕ) → Stands all k rest → AreNumbers (λ j. get_or all j d) k rest
+AreNumbers-stand : (all : List ℕ) (d k : ℕ) (rest : List ℕ) → OccursAt all k rest → AreNumbers (λ j. get_or all j d) k rest
 AreNumbers-stand all d k [] h = tt
 AreNumbers-stand all d k (x ∷ xs) h =
-    (rw h.whole (get_or_at h.before x (xs ++ h.after) d k h.place), AreNumbers-stand all d (suc k) xs (Stands-tail x xs h))
+    (rw h.whole (get_or_at h.before x (xs ++ h.after) d k h.place), AreNumbers-stand all d (suc k) xs (OccursAt-tail x xs h))
 
 -- entries are the numbers of their own places
 pub AreNumbers-own : (entries : List ℕ) → AreNumbers (λ k. get_or entries k 0) 0 entries
-AreNumbers-own entries = AreNumbers-stand entries 0 0 entries (Stands-all entries)
+AreNumbers-own entries = AreNumbers-stand entries 0 0 entries (OccursAt-all entries)
 
 pub PlacesHold-append : (f : List ℕ) (number : ℕ → ℕ) (k n : ℕ) (xs ys : List Plist) → k + length xs ≡ n → PlacesHold f number k xs → PlacesHold f number n ys → PlacesHold f number k (xs ++ ys)
 PlacesHold-append f number k n [] ys far first later = let here : n ≡ k = omega arith in subst (λ m. PlacesHold f number m ys) here later

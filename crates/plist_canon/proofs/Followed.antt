@@ -11,15 +11,15 @@ use Rattle.plist_object.specs.Spelling.{least_width}
 use Rattle.plist_engine.specs.Tree.{preorder}
 use Rattle.plist_engine.specs.Sharing.{kept_places, value_at}
 use Rattle.plist_engine.specs.Canonical.{objects_of, file_of, canon}
-use Rattle.plist_engine.specs.Found.{Stands, held_at, number_in}
+use Rattle.plist_engine.specs.Found.{OccursAt, held_at, number_in}
 use Rattle.plist_canon.specs.Rules.{FollowsRules, IsNumberedInPreorder, IsBroken, breaks_c0, breaks_limits, breaks_c1, breaks_c2, breaks_c3, breaks_c4, breaks_c5, breaks_c6, breaks_c7, leaves_over}
-use Rattle.plist_engine.proofs.Trees.{Stands-all}
+use Rattle.plist_engine.proofs.Trees.{OccursAt-all}
 use Rattle.plist_engine.proofs.Sound.{IsSound, EachSound, EachSound-tree, EachSound-at, sound_from_Fits}
 use Rattle.plist_engine.proofs.Sizes.{total}
 use Rattle.plist_engine.proofs.Reading.{object_in-octets}
 use Rattle.plist_engine.proofs.Found.{octets-held}
 use Rattle.plist_engine.proofs.Binary.{number-fits, length-objects_of, objects-at, objects-some, some-objects, count-fits, table-fits, place-holds, trailer, tree-some, few, light, canon-spells, canon-laid}
-use Rattle.plist_canon.proofs.KeptPlaces.{EachStands-tree, EachStands-at, is_made}
+use Rattle.plist_canon.proofs.KeptPlaces.{EachOccurs-tree, EachOccurs-at, is_made}
 use Rattle.plist_canon.proofs.PlaceRules.{HasObjects, well_read, ascending, no_repeat, numbered}
 use Rattle.plist_canon.proofs.FileRules.{plain_trailer, least_widths, adjoins, shortest}
 use Rattle.std.specs.Prelude.{◌↔◌}
@@ -54,7 +54,7 @@ module _ (all : List Plist) (some : 1 ≤ length all) (small : length all ≤ 16
       let width = least_width (length (kept_places all)) in
       objects-at all some small each i below ∙ sym (octets-held (number_in all) width (kept_at i).0 (kept_at i).1) ∙ ap (λ (n : ℕ). spelling_of (least_width n) (held_of i)) (sym listed)
 
-  module _ (slight : 8 + total all < 18446744073709551616) (stands : (k : ℕ) → k < length all → Stands all k (preorder (value_at all k))) where
+  module _ (slight : 8 + total all < 18446744073709551616) (stands : (k : ℕ) → k < length all → OccursAt all k (preorder (value_at all k))) where
     has_objects : HasObjects (file_of (objects_of all)) all
     has_objects = record {
       counted = ap (λ (x : Trailer). x.count) (trailer all some small each slight) ∙ length-objects_of all some small each;
@@ -93,7 +93,7 @@ canonical_follows_rules v valid fits =
     let each = EachSound-tree v sound in
     let small = few v sound in
     let slight = light v sound in
-    let stands = λ (k : ℕ) (h : k < length all). EachStands-at all all 0 k k h (omega arith) (EachStands-tree all v 0 (Stands-all all)) in
+    let stands = λ (k : ℕ) (h : k < length all). EachOccurs-at all all 0 k k h (omega arith) (EachOccurs-tree all v 0 (OccursAt-all all)) in
     let has = has_objects all some small each slight stands in
     let top = ap (λ (x : Trailer). x.top) (trailer all some small each slight) in
     let spells : Spells (file_of (objects_of all)) 0 v = subst (λ (i : ℕ). Spells (file_of (objects_of all)) i v) top (canon-spells v sound) in

@@ -84,10 +84,10 @@ module _ (f : List ℕ) (all : List Plist) (entry : ℕ → ℕ) (holds : (k : �
   own-first k _ at below forced next = refl
 
   -- the entry of a visited scalar is the number of its first place, which is earlier
-  met-first : (k : ℕ) → k < length all → AreForced k → entry k < count_below k (kept_places all) → HoldsScalar f (entry k) → (first_place all k (value_at all k) < k) × (entry k ≡ number_in all k)
-  met-first k below forced met held =
+  seen-first : (k : ℕ) → k < length all → AreForced k → entry k < count_below k (kept_places all) → HoldsScalar f (entry k) → (first_place all k (value_at all k) < k) × (entry k ≡ number_in all k)
+  seen-first k below forced seen held =
       let s = held.0 in
-      let p = made-before all k (entry k) met in
+      let p = made-before all k (entry k) seen in
       let before = p.1 in
       let numbered : entry p.0 ≡ entry k = forced p.0 p.1 ∙ ap (λ n. count_below n (kept_places all)) p.2 ∙ p.3 in
       let here = scalar-stands f (entry k) k entry (value_at all k) s (holds k (value_at all k) refl below) held.1 in
@@ -97,21 +97,21 @@ module _ (f : List ℕ) (all : List Plist) (entry : ℕ → ℕ) (holds : (k : �
 
   -- if the entries visit the objects in order, each is the number of its place, and in the end all
   -- objects are visited
-  forced-numbers : (entries : List ℕ) (k met after : ℕ) → k + length entries ≡ length all → AreNumbers entry k entries → met ≡ count_below k (kept_places all) → AreForced k → MeetsInOrder f met entries after → AreForced (length all) × (after ≡ length (kept_places all))
-  forced-numbers [] k met after long own counted forced order =
+  forced-numbers : (entries : List ℕ) (k seen after : ℕ) → k + length entries ≡ length all → AreNumbers entry k entries → seen ≡ count_below k (kept_places all) → AreForced k → MeetsInOrder f seen entries after → AreForced (length all) × (after ≡ length (kept_places all))
+  forced-numbers [] k seen after long own counted forced order =
       let end : k ≡ length all = omega arith in
       (subst AreForced end forced, sym order ∙ counted ∙ ap (λ n. count_below n (kept_places all)) end ∙ count_below-end all all 0 (length all) (omega arith))
-  forced-numbers (e ∷ entries) k met after long own counted forced order =
+  forced-numbers (e ∷ entries) k seen after long own counted forced order =
       elim order [
         | inl new ↦ (let here : entry k ≡ count_below k (kept_places all) = own.0 ∙ new.0 ∙ counted in
             let first = own-first k (value_at all k) refl (omega arith) forced here in
             let more = count-kept all k (value_at all k) refl (omega arith) first in
             let number : entry k ≡ number_in all k = here ∙ ap (λ n. count_below n (kept_places all)) (sym first) in
-            forced-numbers entries (suc k) (suc met) after (omega arith) own.1 (ap suc counted ∙ sym more) (one-more k forced number) new.1)
+            forced-numbers entries (suc k) (suc seen) after (omega arith) own.1 (ap suc counted ∙ sym more) (one-more k forced number) new.1)
         | inr known ↦ (let below : entry k < count_below k (kept_places all) = omega (arith, own.0, known.0) in
-            let first = met-first k (omega arith) forced below (subst (HoldsScalar f) (sym own.0) known.1) in
+            let first = seen-first k (omega arith) forced below (subst (HoldsScalar f) (sym own.0) known.1) in
             let same = count-shared all k (value_at all k) refl (omega arith) first.0 in
-            forced-numbers entries (suc k) met after (omega arith) own.1 (counted ∙ sym same) (one-more k forced first.1) known.2)
+            forced-numbers entries (suc k) seen after (omega arith) own.1 (counted ∙ sym same) (one-more k forced first.1) known.2)
       ]
 
 -- The file has the objects of this value, with its numbers.

@@ -8,19 +8,19 @@ use Rattle.std.proofs.lemmas.List.Elements.{Contains-append_left, Contains-push,
 use Rattle.plist_object.specs.Places.{HoldsScalar}
 use Rattle.plist_canon.specs.Rules.{ComesInOrder}
 
--- exactly the numbers below `met` are entries
+-- exactly the numbers below `seen` are entries
 abbrev pub AreBelow : ℕ → List ℕ → Type 0
-AreBelow met entries = (i : ℕ) → Contains entries i ↔ i < met
+AreBelow seen entries = (i : ℕ) → Contains entries i ↔ i < seen
 
 abbrev pub AreInOrder : List ℕ → List ℕ → Type 0
 AreInOrder f entries = (before after : List ℕ) (entry : ℕ) → entries ≡ before ++ (entry ∷ after) → ComesInOrder f before entry
 
 -- Each entry is the next number not yet visited, or the number of a scalar already visited. At
--- first exactly the objects below `met` are visited, in the end those below `after`.
+-- first exactly the objects below `seen` are visited, in the end those below `after`.
 abbrev pub MeetsInOrder : List ℕ → ℕ → List ℕ → ℕ → Type 0
-MeetsInOrder f met [] after = met ≡ after
-MeetsInOrder f met (entry ∷ entries) after =
-    ((entry ≡ met) × MeetsInOrder f (suc met) entries after) ⊎ ((entry < met) × HoldsScalar f entry × MeetsInOrder f met entries after)
+MeetsInOrder f seen [] after = seen ≡ after
+MeetsInOrder f seen (entry ∷ entries) after =
+    ((entry ≡ seen) × MeetsInOrder f (suc seen) entries after) ⊎ ((entry < seen) × HoldsScalar f entry × MeetsInOrder f seen entries after)
 
 pub AreBelow-none : AreBelow 0 []
 AreBelow-none i = (λ among. (let below = among.1 in omega arith), λ below. absurd (omega arith))
@@ -34,20 +34,20 @@ AreBelow-same entries m n first second =
     let most = not_less entries n m second first in
     omega arith
 
-module _ (entries : List ℕ) (met : ℕ) (visited : AreBelow met entries) where
-  pub AreBelow-new : AreBelow (suc met) (entries ++ (met ∷ []))
+module _ (entries : List ℕ) (seen : ℕ) (visited : AreBelow seen entries) where
+  pub AreBelow-new : AreBelow (suc seen) (entries ++ (seen ∷ []))
   AreBelow-new i = (
-    λ among. elim (Contains-push_cases entries met i among) [
+    λ among. elim (Contains-push_cases entries seen i among) [
       | inl before ↦ (let below = (visited i).0 before in omega arith)
       | inr is ↦ omega arith
     ],
-    λ below. elim (cases_lt i met) [
-      | inl before ↦ Contains-append_left entries (met ∷ []) i ((visited i).1 before)
-      | inr past ↦ (let is : met ≡ i = omega arith in subst (Contains (entries ++ (met ∷ []))) is (Contains-push entries met))
+    λ below. elim (cases_lt i seen) [
+      | inl before ↦ Contains-append_left entries (seen ∷ []) i ((visited i).1 before)
+      | inr past ↦ (let is : seen ≡ i = omega arith in subst (Contains (entries ++ (seen ∷ []))) is (Contains-push entries seen))
     ],
   )
 
-  pub AreBelow-known : (i : ℕ) → i < met → AreBelow met (entries ++ (i ∷ []))
+  pub AreBelow-known : (i : ℕ) → i < seen → AreBelow seen (entries ++ (i ∷ []))
   AreBelow-known i below j = (
     λ among. elim (Contains-push_cases entries i j among) [
       | inl before ↦ (visited j).0 before
@@ -56,8 +56,8 @@ module _ (entries : List ℕ) (met : ℕ) (visited : AreBelow met entries) where
     λ less. Contains-append_left entries (i ∷ []) j ((visited j).1 less),
   )
 
-  pub new_or_known : (f : List ℕ) (i : ℕ) → ComesInOrder f entries i → (i ≡ met) ⊎ ((i < met) × HoldsScalar f i)
-  new_or_known f i (inl new) = inl (AreBelow-same entries i met new visited)
+  pub new_or_known : (f : List ℕ) (i : ℕ) → ComesInOrder f entries i → (i ≡ seen) ⊎ ((i < seen) × HoldsScalar f i)
+  new_or_known f i (inl new) = inl (AreBelow-same entries i seen new visited)
   new_or_known f i (inr known) = inr ((visited i).0 known.0, known.1)
 
 no_split : (before after : List ℕ) (e : ℕ) → [] ≡ before ++ (e ∷ after) → ⊥
@@ -81,26 +81,26 @@ AreInOrder-more f entries i order last = by_split (ComesInOrder f) entries order
         by_split (λ ys. P (b ∷ ys)) xs (λ front back d split. each (b ∷ front) back d (cc)) (subst (λ y. P (y ∷ xs) i) first at) before after e rest
 
 -- Entries in order, by the count of objects visited.
-pub meets : (f before entries : List ℕ) (met after : ℕ) → AreBelow met before → AreInOrder f (before ++ entries) → AreBelow after (before ++ entries) → MeetsInOrder f met entries after
-meets f before [] met after visited order all =
-    AreBelow-same before met after visited (subst (AreBelow after) (append-nil before) all)
-meets f before (e ∷ entries) met after visited order all =
+pub meets : (f before entries : List ℕ) (seen after : ℕ) → AreBelow seen before → AreInOrder f (before ++ entries) → AreBelow after (before ++ entries) → MeetsInOrder f seen entries after
+meets f before [] seen after visited order all =
+    AreBelow-same before seen after visited (subst (AreBelow after) (append-nil before) all)
+meets f before (e ∷ entries) seen after visited order all =
     let is = sym (append_assoc before (e ∷ []) entries) in
     let order_on : AreInOrder f ((before ++ (e ∷ [])) ++ entries) = subst (AreInOrder f) is order in
     let all_on : AreBelow after ((before ++ (e ∷ [])) ++ entries) = subst (AreBelow after) is all in
-    elim (new_or_known before met visited f e (order before entries e refl)) [
-      | inl new ↦ inl (new, meets f (before ++ (e ∷ [])) entries (suc met) after (subst (λ i. AreBelow (suc met) (before ++ (i ∷ []))) (sym new) (AreBelow-new before met visited)) order_on all_on)
-      | inr known ↦ inr (known.0, known.1, meets f (before ++ (e ∷ [])) entries met after (AreBelow-known before met visited e known.0) order_on all_on)
+    elim (new_or_known before seen visited f e (order before entries e refl)) [
+      | inl new ↦ inl (new, meets f (before ++ (e ∷ [])) entries (suc seen) after (subst (λ i. AreBelow (suc seen) (before ++ (i ∷ []))) (sym new) (AreBelow-new before seen visited)) order_on all_on)
+      | inr known ↦ inr (known.0, known.1, meets f (before ++ (e ∷ [])) entries seen after (AreBelow-known before seen visited e known.0) order_on all_on)
     ]
 
-pub in_order : (f before entries : List ℕ) (met after : ℕ) → AreBelow met before → AreInOrder f before → MeetsInOrder f met entries after → AreInOrder f (before ++ entries) × AreBelow after (before ++ entries)
-in_order f before [] met after visited order all =
+pub in_order : (f before entries : List ℕ) (seen after : ℕ) → AreBelow seen before → AreInOrder f before → MeetsInOrder f seen entries after → AreInOrder f (before ++ entries) × AreBelow after (before ++ entries)
+in_order f before [] seen after visited order all =
     let is = sym (append-nil before) in
-    (subst (AreInOrder f) is order, subst (λ n. AreBelow n (before ++ [])) all (subst (AreBelow met) is visited))
-in_order f before (e ∷ entries) met after visited order meet =
+    (subst (AreInOrder f) is order, subst (λ n. AreBelow n (before ++ [])) all (subst (AreBelow seen) is visited))
+in_order f before (e ∷ entries) seen after visited order meet =
     subst (λ es. AreInOrder f es × AreBelow after es) (append_assoc before (e ∷ []) entries)
     (elim meet [
       | inl new ↦ (let at : AreBelow e before = subst (λ n. AreBelow n before) (sym new.0) visited in
-          in_order f (before ++ (e ∷ [])) entries (suc met) after (subst (λ n. AreBelow (suc n) (before ++ (e ∷ []))) new.0 (AreBelow-new before e at)) (AreInOrder-more f before e order (inl at)) new.1)
-      | inr known ↦ in_order f (before ++ (e ∷ [])) entries met after (AreBelow-known before met visited e known.0) (AreInOrder-more f before e order (inr ((visited e).1 known.0, known.1))) known.2
+          in_order f (before ++ (e ∷ [])) entries (suc seen) after (subst (λ n. AreBelow (suc n) (before ++ (e ∷ []))) new.0 (AreBelow-new before e at)) (AreInOrder-more f before e order (inl at)) new.1)
+      | inr known ↦ in_order f (before ++ (e ∷ [])) entries seen after (AreBelow-known before seen visited e known.0) (AreInOrder-more f before e order (inr ((visited e).1 known.0, known.1))) known.2
     ])

@@ -4,56 +4,56 @@ use Rattle.std.specs.Prelude.{⊤}
 use Rattle.plist_value.specs.Plist.{text, Plist, scalar, list, table, Items, no_items, item, Pairs, no_pairs, pair}
 use Rattle.plist_engine.specs.Tree.{key_texts, preorder, preorder_items, preorder_values}
 use Rattle.plist_engine.specs.Sharing.{value_at, first_place, kept_from, kept_places, count_below}
-use Rattle.plist_engine.proofs.Trees.{Stands, Stands-front, Stands-rest, Stands-tail}
+use Rattle.plist_engine.proofs.Trees.{OccursAt, OccursAt-front, OccursAt-rest, OccursAt-tail}
 use Rattle.std.proofs.lemmas.Bool.{le-ltb, eqb-true, cases_Bool}
 use Rattle.plist_engine.specs.Found.{number_in}
 use Rattle.plist_engine.proofs.Numbering.{count_below-none, number-entry}
 
 -- each of these values, which are at the places from k on, begins its own subtree there
-abbrev pub EachStands : List Plist → ℕ → List Plist → Type 0
-EachStands all k [] = ⊤
-EachStands all k (v ∷ rest) = Stands all k (preorder v) × EachStands all (suc k) rest
+abbrev pub EachOccurs : List Plist → ℕ → List Plist → Type 0
+EachOccurs all k [] = ⊤
+EachOccurs all k (v ∷ rest) = OccursAt all k (preorder v) × EachOccurs all (suc k) rest
 
-EachStands-append : (all : List Plist) (k : ℕ) (xs ys : List Plist) → EachStands all k xs → EachStands all (k + length xs) ys → EachStands all k (xs ++ ys)
-EachStands-append all k [] ys each others = rw add-zero at others
-EachStands-append all k (x ∷ xs) ys each others =
+EachOccurs-append : (all : List Plist) (k : ℕ) (xs ys : List Plist) → EachOccurs all k xs → EachOccurs all (k + length xs) ys → EachOccurs all k (xs ++ ys)
+EachOccurs-append all k [] ys each others = rw add-zero at others
+EachOccurs-append all k (x ∷ xs) ys each others =
     let moved : k + suc (length xs) ≡ suc k + length xs = omega arith in
-    (each.0, EachStands-append all (suc k) xs ys each.1 (subst (λ (n : ℕ). EachStands all n ys) moved others))
+    (each.0, EachOccurs-append all (suc k) xs ys each.1 (subst (λ (n : ℕ). EachOccurs all n ys) moved others))
 
-EachStands-keys : (all : List Plist) (ps : Pairs) (k : ℕ) → Stands all k (key_texts ps) → EachStands all k (key_texts ps)
-EachStands-keys all no_pairs k h = tt
-EachStands-keys all (pair key v ps) k h =
-    (Stands-front (scalar (text key) ∷ []) (key_texts ps) h, EachStands-keys all ps (suc k) (Stands-tail (scalar (text key)) (key_texts ps) h))
+EachOccurs-keys : (all : List Plist) (ps : Pairs) (k : ℕ) → OccursAt all k (key_texts ps) → EachOccurs all k (key_texts ps)
+EachOccurs-keys all no_pairs k h = tt
+EachOccurs-keys all (pair key v ps) k h =
+    (OccursAt-front (scalar (text key) ∷ []) (key_texts ps) h, EachOccurs-keys all ps (suc k) (OccursAt-tail (scalar (text key)) (key_texts ps) h))
 
 mutual
-  pub EachStands-tree : (all : List Plist) (v : Plist) (k : ℕ) → Stands all k (preorder v) → EachStands all k (preorder v)
-  EachStands-tree all (scalar s) k h = (h, tt)
-  EachStands-tree all (list vs) k h = (h, EachStands-items all vs (suc k) (Stands-tail (list vs) (preorder_items vs) h))
-  EachStands-tree all (table ps) k h =
-      let below = Stands-tail (table ps) (key_texts ps ++ preorder_values ps) h in
-      let keys = EachStands-keys all ps (suc k) (Stands-front (key_texts ps) (preorder_values ps) below) in
-      let values = EachStands-values all ps (suc k + length (key_texts ps)) (Stands-rest (key_texts ps) (preorder_values ps) (length (key_texts ps)) refl below) in
-      (h, EachStands-append all (suc k) (key_texts ps) (preorder_values ps) keys values)
+  pub EachOccurs-tree : (all : List Plist) (v : Plist) (k : ℕ) → OccursAt all k (preorder v) → EachOccurs all k (preorder v)
+  EachOccurs-tree all (scalar s) k h = (h, tt)
+  EachOccurs-tree all (list vs) k h = (h, EachOccurs-items all vs (suc k) (OccursAt-tail (list vs) (preorder_items vs) h))
+  EachOccurs-tree all (table ps) k h =
+      let below = OccursAt-tail (table ps) (key_texts ps ++ preorder_values ps) h in
+      let keys = EachOccurs-keys all ps (suc k) (OccursAt-front (key_texts ps) (preorder_values ps) below) in
+      let values = EachOccurs-values all ps (suc k + length (key_texts ps)) (OccursAt-rest (key_texts ps) (preorder_values ps) (length (key_texts ps)) refl below) in
+      (h, EachOccurs-append all (suc k) (key_texts ps) (preorder_values ps) keys values)
 
-  EachStands-items : (all : List Plist) (vs : Items) (k : ℕ) → Stands all k (preorder_items vs) → EachStands all k (preorder_items vs)
-  EachStands-items all no_items k h = tt
-  EachStands-items all (item v vs) k h =
-      let first = EachStands-tree all v k (Stands-front (preorder v) (preorder_items vs) h) in
-      let others = EachStands-items all vs (k + length (preorder v)) (Stands-rest (preorder v) (preorder_items vs) (length (preorder v)) refl h) in
-      EachStands-append all k (preorder v) (preorder_items vs) first others
+  EachOccurs-items : (all : List Plist) (vs : Items) (k : ℕ) → OccursAt all k (preorder_items vs) → EachOccurs all k (preorder_items vs)
+  EachOccurs-items all no_items k h = tt
+  EachOccurs-items all (item v vs) k h =
+      let first = EachOccurs-tree all v k (OccursAt-front (preorder v) (preorder_items vs) h) in
+      let others = EachOccurs-items all vs (k + length (preorder v)) (OccursAt-rest (preorder v) (preorder_items vs) (length (preorder v)) refl h) in
+      EachOccurs-append all k (preorder v) (preorder_items vs) first others
 
-  EachStands-values : (all : List Plist) (ps : Pairs) (k : ℕ) → Stands all k (preorder_values ps) → EachStands all k (preorder_values ps)
-  EachStands-values all no_pairs k h = tt
-  EachStands-values all (pair key v ps) k h =
-      let first = EachStands-tree all v k (Stands-front (preorder v) (preorder_values ps) h) in
-      let others = EachStands-values all ps (k + length (preorder v)) (Stands-rest (preorder v) (preorder_values ps) (length (preorder v)) refl h) in
-      EachStands-append all k (preorder v) (preorder_values ps) first others
+  EachOccurs-values : (all : List Plist) (ps : Pairs) (k : ℕ) → OccursAt all k (preorder_values ps) → EachOccurs all k (preorder_values ps)
+  EachOccurs-values all no_pairs k h = tt
+  EachOccurs-values all (pair key v ps) k h =
+      let first = EachOccurs-tree all v k (OccursAt-front (preorder v) (preorder_values ps) h) in
+      let others = EachOccurs-values all ps (k + length (preorder v)) (OccursAt-rest (preorder v) (preorder_values ps) (length (preorder v)) refl h) in
+      EachOccurs-append all k (preorder v) (preorder_values ps) first others
 
 -- the subtree at place k, which is place m of these values
-pub EachStands-at : (all rest : List Plist) (j m k : ℕ) → m < length rest → j + m ≡ k → EachStands all j rest → Stands all k (preorder (value_at rest m))
-EachStands-at all [] j m k h at each = absurd (omega arith)
-EachStands-at all (v ∷ rest) j zero k h at each = let same : j ≡ k = omega arith in subst (λ (n : ℕ). Stands all n (preorder v)) same each.0
-EachStands-at all (v ∷ rest) j (suc m) k h at each = EachStands-at all rest (suc j) m k (omega arith) (omega arith) each.1
+pub EachOccurs-at : (all rest : List Plist) (j m k : ℕ) → m < length rest → j + m ≡ k → EachOccurs all j rest → OccursAt all k (preorder (value_at rest m))
+EachOccurs-at all [] j m k h at each = absurd (omega arith)
+EachOccurs-at all (v ∷ rest) j zero k h at each = let same : j ≡ k = omega arith in subst (λ (n : ℕ). OccursAt all n (preorder v)) same each.0
+EachOccurs-at all (v ∷ rest) j (suc m) k h at each = EachOccurs-at all rest (suc j) m k (omega arith) (omega arith) each.1
 
 -- Each number below the count of objects is that of a place with an object of its own.
 

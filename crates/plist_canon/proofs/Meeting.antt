@@ -8,7 +8,7 @@ use Rattle.plist_value.specs.Scalars.{content_of}
 use Rattle.plist_value.specs.declared.scalar_ref.ScalarRef.{ScalarRef}
 use Rattle.plist_engine.specs.Scalars.{number_stored, EntersScalar}
 use Rattle.plist_engine.specs.declared.scalars.Scalars.{Scalars}
-use Rattle.plist_canon.specs.Met.{was_met, IsHeldBefore, HasMet}
+use Rattle.plist_canon.specs.Seen.{was_seen, IsHeldBefore, HasSeen}
 use Rattle.plist_value.specs.Plist.{Scalar}
 use Rattle.plist_object.specs.Objects.{holds_scalar}
 use Rattle.plist_canon.specs.Rules.{IsNoRepeat}
@@ -24,26 +24,26 @@ is_some-or (Some n) false next = refl
 
 module _ {S H : Type 0} (s : ScalarRef) (next : ℕ) (old new : Scalars S H) (had : Option ℕ) (enters : EntersScalar s next old new had) where
   -- scalars equal to the new one are seen now, all others if they were before
-  met-each : (q : ScalarRef) → was_met new q ≡ cond (scalar_eq (content_of s) (content_of q)) true (was_met old q)
-  met-each q = ap is_some (enters.each q) ∙ is_some-or (number_stored old q) (scalar_eq (content_of s) (content_of q)) next
+  seen-each : (q : ScalarRef) → was_seen new q ≡ cond (scalar_eq (content_of s) (content_of q)) true (was_seen old q)
+  seen-each q = ap is_some (enters.each q) ∙ is_some-or (number_stored old q) (scalar_eq (content_of s) (content_of q)) next
 
-  pub met-had : is_some had ≡ was_met old s
-  met-had = ap is_some enters.had_is
+  pub seen-had : is_some had ≡ was_seen old s
+  seen-had = ap is_some enters.had_is
 
-  pub met-same : (q : ScalarRef) → content_of s ≡ content_of q → was_met new q ≡ true
-  met-same q is =
-      let found : scalar_eq (content_of s) (content_of q) ≡ true = (scalar_eq-Decides (content_of s) (content_of q)).1 is in met-each q ∙ rw found refl
+  pub seen-same : (q : ScalarRef) → content_of s ≡ content_of q → was_seen new q ≡ true
+  seen-same q is =
+      let found : scalar_eq (content_of s) (content_of q) ≡ true = (scalar_eq-Decides (content_of s) (content_of q)).1 is in seen-each q ∙ rw found refl
 
-  pub met-other : (q : ScalarRef) → was_met new q ≡ true → (content_of s ≡ content_of q) ⊎ (was_met old q ≡ true)
-  met-other q now = elim (cases_Bool (scalar_eq (content_of s) (content_of q))) [
+  pub seen-other : (q : ScalarRef) → was_seen new q ≡ true → (content_of s ≡ content_of q) ⊎ (was_seen old q ≡ true)
+  seen-other q now = elim (cases_Bool (scalar_eq (content_of s) (content_of q))) [
     | inl is ↦ inl ((scalar_eq-Decides (content_of s) (content_of q)).0 is)
-    | inr apart ↦ inr (let still : was_met new q ≡ was_met old q = met-each q ∙ rw apart refl in sym still ∙ now)
+    | inr apart ↦ inr (let still : was_seen new q ≡ was_seen old q = seen-each q ∙ rw apart refl in sym still ∙ now)
   ]
 
-  pub met-kept : (q : ScalarRef) → was_met old q ≡ true → was_met new q ≡ true
-  met-kept q before = elim (cases_Bool (scalar_eq (content_of s) (content_of q))) [
-    | inl is ↦ met-each q ∙ rw is refl
-    | inr apart ↦ met-each q ∙ rw apart before
+  pub seen-kept : (q : ScalarRef) → was_seen old q ≡ true → was_seen new q ≡ true
+  seen-kept q before = elim (cases_Bool (scalar_eq (content_of s) (content_of q))) [
+    | inl is ↦ seen-each q ∙ rw is refl
+    | inr apart ↦ seen-each q ∙ rw apart before
   ]
 
 -- Scalars that may repeat others, and those that cannot.
@@ -56,37 +56,37 @@ held_later : (filter : RepeatFilter) (f : List ℕ) (i : ℕ) (s : Scalar) → I
 held_later filter f i s before = (before.0, (omega (arith, before.1.0), before.1.1))
 
 -- entering object i, which may repeat another
-module _ {S H : Type 0} (filter : RepeatFilter) (f : List ℕ) (i next : ℕ) (s : ScalarRef) (old new : Scalars S H) (had : Option ℕ) (may : MayRepeat filter i) (holds : HoldsIt f i (content_of s)) (met : HasMet filter f i old) (enters : EntersScalar s next old new had) where
-  met_here : (q : ScalarRef) → HoldsIt f i (content_of q) → was_met new q ≡ true
-  met_here q reads =
-      met-same s next old new had enters q (one_scalar f i (content_of s) (content_of q) holds reads)
+module _ {S H : Type 0} (filter : RepeatFilter) (f : List ℕ) (i next : ℕ) (s : ScalarRef) (old new : Scalars S H) (had : Option ℕ) (may : MayRepeat filter i) (holds : HoldsIt f i (content_of s)) (seen : HasSeen filter f i old) (enters : EntersScalar s next old new had) where
+  seen_here : (q : ScalarRef) → HoldsIt f i (content_of q) → was_seen new q ≡ true
+  seen_here q reads =
+      seen-same s next old new had enters q (one_scalar f i (content_of s) (content_of q) holds reads)
 
-  met_now : (q : ScalarRef) → IsHeldBefore filter f (suc i) (content_of q) → was_met new q ≡ true
-  met_now q before = elim (cases_lt before.0 i) [
-    | inl earlier ↦ met-kept s next old new had enters q ((met.each q).1 (before.0, (earlier, before.1.1)))
-    | inr late ↦ (let below = before.1.0 in let is : before.0 ≡ i = omega arith in met_here q (subst (λ (k : ℕ). HoldsIt f k (content_of q)) is before.1.1.1))
+  seen_now : (q : ScalarRef) → IsHeldBefore filter f (suc i) (content_of q) → was_seen new q ≡ true
+  seen_now q before = elim (cases_lt before.0 i) [
+    | inl earlier ↦ seen-kept s next old new had enters q ((seen.each q).1 (before.0, (earlier, before.1.1)))
+    | inr late ↦ (let below = before.1.0 in let is : before.0 ≡ i = omega arith in seen_here q (subst (λ (k : ℕ). HoldsIt f k (content_of q)) is before.1.1.1))
   ]
 
-  pub HasMet-scalar : HasMet filter f (suc i) new
-  HasMet-scalar = record {
+  pub HasSeen-scalar : HasSeen filter f (suc i) new
+  HasSeen-scalar = record {
     numbered = enters.numbered;
     each = λ q. (
-      λ now. elim (met-other s next old new had enters q now) [
+      λ now. elim (seen-other s next old new had enters q now) [
         | inl same ↦ (i, (omega arith, (may, subst (λ (t : Scalar). HoldsIt f i t) same holds)))
-        | inr before ↦ held_later filter f i (content_of q) ((met.each q).0 before)
+        | inr before ↦ held_later filter f i (content_of q) ((seen.each q).0 before)
       ],
-      met_now q,
+      seen_now q,
     );
   }
 
 -- an object that is not a scalar, or cannot repeat another, changes nothing
-pub HasMet-past : {S H : Type 0} → (filter : RepeatFilter) (f : List ℕ) (i : ℕ) (scalars : Scalars S H) → ((s : Scalar) → MayRepeat filter i → HoldsIt f i s → ⊥) → HasMet filter f i scalars → HasMet filter f (suc i) scalars
-HasMet-past filter f i scalars none met = record {
-  numbered = met.numbered;
+pub HasSeen-past : {S H : Type 0} → (filter : RepeatFilter) (f : List ℕ) (i : ℕ) (scalars : Scalars S H) → ((s : Scalar) → MayRepeat filter i → HoldsIt f i s → ⊥) → HasSeen filter f i scalars → HasSeen filter f (suc i) scalars
+HasSeen-past filter f i scalars none seen = record {
+  numbered = seen.numbered;
   each = λ q. (
-    λ now. held_later filter f i (content_of q) ((met.each q).0 now),
+    λ now. held_later filter f i (content_of q) ((seen.each q).0 now),
     λ before. elim (cases_lt before.0 i) [
-      | inl earlier ↦ (met.each q).1 (before.0, (earlier, before.1.1))
+      | inl earlier ↦ (seen.each q).1 (before.0, (earlier, before.1.1))
       | inr late ↦ absurd (
           let below = before.1.0 in
           let is : before.0 ≡ i = omega arith in
@@ -102,14 +102,14 @@ module _ (f : List ℕ) (n : ℕ) (filter : RepeatFilter) (added : HasAdded f n 
   IsNoRepeat-apart i below apart s reads earlier before again =
       apart (later_may f n filter added earlier i s before below again reads)
 
-  pub IsNoRepeat-new : {S H : Type 0} → (i : ℕ) (s : ScalarRef) (scalars : Scalars S H) → i < n → HoldsIt f i (content_of s) → HasMet filter f i scalars → was_met scalars s ≡ false → IsNoRepeat f i
-  IsNoRepeat-new i s scalars below holds met unknown t reads earlier before again =
+  pub IsNoRepeat-new : {S H : Type 0} → (i : ℕ) (s : ScalarRef) (scalars : Scalars S H) → i < n → HoldsIt f i (content_of s) → HasSeen filter f i scalars → was_seen scalars s ≡ false → IsNoRepeat f i
+  IsNoRepeat-new i s scalars below holds seen unknown t reads earlier before again =
       let may = earlier_may f n filter added earlier i t before below again reads in
       let is : t ≡ content_of s = one_scalar f i t (content_of s) reads holds in
       let held : HoldsIt f earlier (content_of s) = subst (λ (u : Scalar). HoldsIt f earlier u) is again in
-      true≢false (sym ((met.each s).1 (earlier, (before, (may, held)))) ∙ unknown)
+      true≢false (sym ((seen.each s).1 (earlier, (before, (may, held)))) ∙ unknown)
 
-pub not-IsNoRepeat : {S H : Type 0} → (filter : RepeatFilter) (f : List ℕ) (i : ℕ) (s : ScalarRef) (scalars : Scalars S H) → HoldsIt f i (content_of s) → HasMet filter f i scalars → was_met scalars s ≡ true → IsNoRepeat f i → ⊥
-not-IsNoRepeat filter f i s scalars holds met known single =
-    let before = (met.each s).0 known in
+pub not-IsNoRepeat : {S H : Type 0} → (filter : RepeatFilter) (f : List ℕ) (i : ℕ) (s : ScalarRef) (scalars : Scalars S H) → HoldsIt f i (content_of s) → HasSeen filter f i scalars → was_seen scalars s ≡ true → IsNoRepeat f i → ⊥
+not-IsNoRepeat filter f i s scalars holds seen known single =
+    let before = (seen.each s).0 known in
     single (content_of s) holds before.0 before.1.0 before.1.1.1

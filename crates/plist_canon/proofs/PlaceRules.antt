@@ -13,10 +13,10 @@ use Rattle.plist_object.specs.Places.{what_holds, Holds, HoldsText, HoldsScalar}
 use Rattle.plist_object.proofs.Uniqueness.{same_held}
 use Rattle.plist_engine.specs.Tree.{key_texts, preorder, preorder_items, preorder_values, item_places, key_places, value_places}
 use Rattle.plist_engine.specs.Sharing.{first_place, kept_places, value_at, count_below}
-use Rattle.plist_engine.specs.Found.{Stands, held_at, number_in}
+use Rattle.plist_engine.specs.Found.{OccursAt, held_at, number_in}
 use Rattle.plist_canon.specs.Rules.{HoldTexts, IsWellRead, HasAscendingKeys, IsNoRepeat, Walk, visit, Walks, end, step, IsNumberedInPreorder}
 use Rattle.plist_canon.proofs.InOrder.{MeetsInOrder, AreBelow-none, AreInOrder-none, in_order}
-use Rattle.plist_engine.proofs.Trees.{length-preorder, Stands-front, Stands-rest, Stands-tail, Stands-head, Stands-tree, Stands-all}
+use Rattle.plist_engine.proofs.Trees.{length-preorder, OccursAt-front, OccursAt-rest, OccursAt-tail, OccursAt-head, OccursAt-tree, OccursAt-all}
 use Rattle.plist_canon.proofs.KeptPlaces.{is_made, count_below-end}
 use Rattle.plist_canon.proofs.Judges.{every_append}
 use Rattle.plist_canon.proofs.Visiting.{Walks-append}
@@ -29,7 +29,7 @@ use Rattle.plist_engine.proofs.Counting.{count-kept, count-shared}
 pub record HasObjects (f : List ℕ) (all : List Plist) : Type 0 where
   pub counted : (trailer_of f).count ≡ length (kept_places all)
   pub reads : (k : ℕ) (v : Plist) → value_at all k ≡ v → k < length all → Holds f (number_in all k) (held_at (number_in all) k v)
-  pub stands : (k : ℕ) → k < length all → Stands all k (preorder (value_at all k))
+  pub stands : (k : ℕ) → k < length all → OccursAt all k (preorder (value_at all k))
 
 -- the keys of a dictionary in order
 abbrev key_units : Pairs → List (List ℕ)
@@ -51,54 +51,54 @@ module _ (f : List ℕ) (all : List Plist) (has : HasObjects f all) where
   abbrev IsListed : ℕ → Type 0
   IsListed reference = reference < (trailer_of f).count
 
-  listed_tree : (v : Plist) (k : ℕ) → Stands all k (preorder v) → IsListed (number_in all k)
-  listed_tree v k h = let at = Stands-tree v h in let holds = has.reads k v at.0 at.1 in holds.listed
+  listed_tree : (v : Plist) (k : ℕ) → OccursAt all k (preorder v) → IsListed (number_in all k)
+  listed_tree v k h = let at = OccursAt-tree v h in let holds = has.reads k v at.0 at.1 in holds.listed
 
-  listed_items : (vs : Items) (k : ℕ) → Stands all k (preorder_items vs) → AllByRecursion IsListed (map (number_in all) (item_places k vs))
+  listed_items : (vs : Items) (k : ℕ) → OccursAt all k (preorder_items vs) → AllByRecursion IsListed (map (number_in all) (item_places k vs))
   listed_items no_items k h = tt
   listed_items (item v vs) k h = (
-    listed_tree v k (Stands-front (preorder v) (preorder_items vs) h),
-    listed_items vs (k + _) (Stands-rest (preorder v) (preorder_items vs) _ (length-preorder v) h),
+    listed_tree v k (OccursAt-front (preorder v) (preorder_items vs) h),
+    listed_items vs (k + _) (OccursAt-rest (preorder v) (preorder_items vs) _ (length-preorder v) h),
   )
 
-  listed_values : (ps : Pairs) (k : ℕ) → Stands all k (preorder_values ps) → AllByRecursion IsListed (map (number_in all) (value_places k ps))
+  listed_values : (ps : Pairs) (k : ℕ) → OccursAt all k (preorder_values ps) → AllByRecursion IsListed (map (number_in all) (value_places k ps))
   listed_values no_pairs k h = tt
   listed_values (pair key v ps) k h = (
-    listed_tree v k (Stands-front (preorder v) (preorder_values ps) h),
-    listed_values ps (k + _) (Stands-rest (preorder v) (preorder_values ps) _ (length-preorder v) h),
+    listed_tree v k (OccursAt-front (preorder v) (preorder_values ps) h),
+    listed_values ps (k + _) (OccursAt-rest (preorder v) (preorder_values ps) _ (length-preorder v) h),
   )
 
-  key_holds : (key : List ℕ) (rest : List Plist) (k : ℕ) → Stands all k (scalar (text key) ∷ rest) → Holds f (number_in all k) (holds_scalar (text key))
-  key_holds key rest k h = let at = Stands-head (scalar (text key)) rest h in has.reads k (scalar (text key)) at.0 at.1
+  key_holds : (key : List ℕ) (rest : List Plist) (k : ℕ) → OccursAt all k (scalar (text key) ∷ rest) → Holds f (number_in all k) (holds_scalar (text key))
+  key_holds key rest k h = let at = OccursAt-head (scalar (text key)) rest h in has.reads k (scalar (text key)) at.0 at.1
 
-  listed_keys : (ps : Pairs) (k : ℕ) → Stands all k (key_texts ps) → AllByRecursion IsListed (map (number_in all) (key_places k ps))
+  listed_keys : (ps : Pairs) (k : ℕ) → OccursAt all k (key_texts ps) → AllByRecursion IsListed (map (number_in all) (key_places k ps))
   listed_keys no_pairs k h = tt
   listed_keys (pair key v ps) k h =
       let holds = key_holds key (key_texts ps) k h in
-      (holds.listed, listed_keys ps (suc k) (Stands-tail (scalar (text key)) (key_texts ps) h))
+      (holds.listed, listed_keys ps (suc k) (OccursAt-tail (scalar (text key)) (key_texts ps) h))
 
-  keys_hold : (ps : Pairs) (k : ℕ) → Stands all k (key_texts ps) → AllByRecursion (HoldsText f) (map (number_in all) (key_places k ps))
+  keys_hold : (ps : Pairs) (k : ℕ) → OccursAt all k (key_texts ps) → AllByRecursion (HoldsText f) (map (number_in all) (key_places k ps))
   keys_hold no_pairs k h = tt
   keys_hold (pair key v ps) k h =
-      ((key, key_holds key (key_texts ps) k h), keys_hold ps (suc k) (Stands-tail (scalar (text key)) (key_texts ps) h))
+      ((key, key_holds key (key_texts ps) k h), keys_hold ps (suc k) (OccursAt-tail (scalar (text key)) (key_texts ps) h))
 
-  well_read_at : (v : Plist) (k : ℕ) → Stands all k (preorder v) → IsWellRead f (number_in all k)
+  well_read_at : (v : Plist) (k : ℕ) → OccursAt all k (preorder v) → IsWellRead f (number_in all k)
   well_read_at (scalar s) k h =
-      let at = Stands-tree (scalar s) h in
+      let at = OccursAt-tree (scalar s) h in
       record { held = holds_scalar s; holds = has.reads k (scalar s) at.0 at.1; numbers = tt; texts = tt }
   well_read_at (list vs) k h =
-      let at = Stands-tree (list vs) h in
+      let at = OccursAt-tree (list vs) h in
       record {
         held = held_at (number_in all) k (list vs);
         holds = has.reads k (list vs) at.0 at.1;
-        numbers = listed_items vs (suc k) (Stands-tail (list vs) (preorder_items vs) h);
+        numbers = listed_items vs (suc k) (OccursAt-tail (list vs) (preorder_items vs) h);
         texts = tt;
       }
   well_read_at (table ps) k h =
-      let at = Stands-tree (table ps) h in
-      let below = Stands-tail (table ps) (key_texts ps ++ preorder_values ps) h in
-      let keys = Stands-front (key_texts ps) (preorder_values ps) below in
-      let values = Stands-rest (key_texts ps) (preorder_values ps) (length (key_texts ps)) refl below in
+      let at = OccursAt-tree (table ps) h in
+      let below = OccursAt-tail (table ps) (key_texts ps ++ preorder_values ps) h in
+      let keys = OccursAt-front (key_texts ps) (preorder_values ps) below in
+      let values = OccursAt-rest (key_texts ps) (preorder_values ps) (length (key_texts ps)) refl below in
       record {
         held = held_at (number_in all) k (table ps);
         holds = has.reads k (table ps) at.0 at.1;
@@ -112,32 +112,32 @@ module _ (f : List ℕ) (all : List Plist) (has : HasObjects f all) where
       subst (IsWellRead f) made.number_is (well_read_at (value_at all made.place) made.place (has.stands made.place made.below))
 
   -- the strings that references to keys point to are the keys
-  texts_named : (ps : Pairs) (k : ℕ) (texts : List (List ℕ)) → Stands all k (key_texts ps) → HoldTexts f (map (number_in all) (key_places k ps)) texts → texts ≡ key_units ps
+  texts_named : (ps : Pairs) (k : ℕ) (texts : List (List ℕ)) → OccursAt all k (key_texts ps) → HoldTexts f (map (number_in all) (key_places k ps)) texts → texts ≡ key_units ps
   texts_named no_pairs k [] h named = refl
   texts_named no_pairs k (units ∷ texts) h named = absurd named
   texts_named (pair key v ps) k [] h named =
       absurd (let none : number_in all k ∷ map (number_in all) (key_places (suc k) ps) ≡ [] = named in cc)
   texts_named (pair key v ps) k (units ∷ texts) h named =
       let first = same_held f (number_in all k) (holds_scalar (text units)) (holds_scalar (text key)) named.0 (key_holds key (key_texts ps) k h) in
-      let others = texts_named ps (suc k) texts (Stands-tail (scalar (text key)) (key_texts ps) h) named.1 in
+      let others = texts_named ps (suc k) texts (OccursAt-tail (scalar (text key)) (key_texts ps) h) named.1 in
       cc
 
-  ascending_at : (v : Plist) (k : ℕ) → Stands all k (preorder v) → IsPlist v → HasAscendingKeys f (number_in all k)
+  ascending_at : (v : Plist) (k : ℕ) → OccursAt all k (preorder v) → IsPlist v → HasAscendingKeys f (number_in all k)
   ascending_at (scalar s) k h valid keys values texts reads named =
-      let at = Stands-tree (scalar s) h in
+      let at = OccursAt-tree (scalar s) h in
       let holds = (has.reads k (scalar s) at.0 at.1).reads in
       absurd (let e : Ok (holds_scalar s) ≡ Ok (holds_table keys values) = sym holds ∙ reads in cc)
   ascending_at (list vs) k h valid keys values texts reads named =
-      let at = Stands-tree (list vs) h in
+      let at = OccursAt-tree (list vs) h in
       let holds = (has.reads k (list vs) at.0 at.1).reads in
       absurd (let e : Ok (holds_list (map (number_in all) (item_places (suc k) vs))) ≡ Ok (holds_table keys values) = sym holds ∙ reads in cc)
   ascending_at (table ps) k h valid keys values texts reads named =
-      let at = Stands-tree (table ps) h in
+      let at = OccursAt-tree (table ps) h in
       let holds = (has.reads k (table ps) at.0 at.1).reads in
       let e : Ok (held_at (number_in all) k (table ps)) ≡ Ok (holds_table keys values) = sym holds ∙ reads in
       let same : keys ≡ map (number_in all) (key_places (suc k) ps) = cc in
-      let below = Stands-tail (table ps) (key_texts ps ++ preorder_values ps) h in
-      let texts_are = texts_named ps (suc k) texts (Stands-front (key_texts ps) (preorder_values ps) below) (subst (λ (refs : List ℕ). HoldTexts f refs texts) same named) in
+      let below = OccursAt-tail (table ps) (key_texts ps ++ preorder_values ps) h in
+      let texts_are = texts_named ps (suc k) texts (OccursAt-front (key_texts ps) (preorder_values ps) below) (subst (λ (refs : List ℕ). HoldTexts f refs texts) same named) in
       subst (IsStrictlySortedBy (slice_cmp nat_cmp)) (sym texts_are) (keys_ascend ps valid)
 
   pub ascending : ((k : ℕ) → k < length all → IsPlist (value_at all k)) → (i : ℕ) → i < (trailer_of f).count → HasAscendingKeys f i
@@ -199,45 +199,45 @@ count-grows m n (p ∷ kept) h =
     ]
 
 module _ (f : List ℕ) (all : List Plist) (has : HasObjects f all) where
-  walk_keys : (ps : Pairs) (k : ℕ) → Stands all k (key_texts ps) → Walks f (map (number_in all) (key_places k ps)) (entries_of (number_in all) k (key_texts ps))
+  walk_keys : (ps : Pairs) (k : ℕ) → OccursAt all k (key_texts ps) → Walks f (map (number_in all) (key_places k ps)) (entries_of (number_in all) k (key_texts ps))
   walk_keys no_pairs k h = end
   walk_keys (pair key v ps) k h =
-      let at = Stands-head (scalar (text key)) (key_texts ps) h in
-      let others = walk_keys ps (suc k) (Stands-tail (scalar (text key)) (key_texts ps) h) in
+      let at = OccursAt-head (scalar (text key)) (key_texts ps) h in
+      let others = walk_keys ps (suc k) (OccursAt-tail (scalar (text key)) (key_texts ps) h) in
       let first = visit (number_in all k) (holds_scalar (text key)) [] (has.reads k (scalar (text key)) at.0 at.1) end in
       step (number_in all k) (map (number_in all) (key_places (suc k) ps)) (number_in all k ∷ []) (entries_of (number_in all) (suc k) (key_texts ps)) first others
 
   mutual
-    walk_tree : (v : Plist) (k : ℕ) → Stands all k (preorder v) → Walk f (number_in all k) (entries_of (number_in all) k (preorder v))
+    walk_tree : (v : Plist) (k : ℕ) → OccursAt all k (preorder v) → Walk f (number_in all k) (entries_of (number_in all) k (preorder v))
     walk_tree (scalar s) k h =
-        let at = Stands-tree (scalar s) h in visit (number_in all k) (holds_scalar s) [] (has.reads k (scalar s) at.0 at.1) end
+        let at = OccursAt-tree (scalar s) h in visit (number_in all k) (holds_scalar s) [] (has.reads k (scalar s) at.0 at.1) end
     walk_tree (list vs) k h =
-        let at = Stands-tree (list vs) h in
-        visit (number_in all k) (held_at (number_in all) k (list vs)) (entries_of (number_in all) (suc k) (preorder_items vs)) (has.reads k (list vs) at.0 at.1) (walk_items vs (suc k) (Stands-tail (list vs) (preorder_items vs) h))
+        let at = OccursAt-tree (list vs) h in
+        visit (number_in all k) (held_at (number_in all) k (list vs)) (entries_of (number_in all) (suc k) (preorder_items vs)) (has.reads k (list vs) at.0 at.1) (walk_items vs (suc k) (OccursAt-tail (list vs) (preorder_items vs) h))
     walk_tree (table ps) k h =
-        let at = Stands-tree (table ps) h in
-        let below = Stands-tail (table ps) (key_texts ps ++ preorder_values ps) h in
+        let at = OccursAt-tree (table ps) h in
+        let below = OccursAt-tail (table ps) (key_texts ps ++ preorder_values ps) h in
         let start = suc k + length (key_texts ps) in
-        let keys = walk_keys ps (suc k) (Stands-front (key_texts ps) (preorder_values ps) below) in
-        let values = walk_values ps start (Stands-rest (key_texts ps) (preorder_values ps) (length (key_texts ps)) refl below) in
+        let keys = walk_keys ps (suc k) (OccursAt-front (key_texts ps) (preorder_values ps) below) in
+        let values = walk_values ps start (OccursAt-rest (key_texts ps) (preorder_values ps) (length (key_texts ps)) refl below) in
         let both = Walks-append f (map (number_in all) (key_places (suc k) ps)) (map (number_in all) (value_places start ps)) (entries_of (number_in all) (suc k) (key_texts ps)) (entries_of (number_in all) start (preorder_values ps)) keys values in
         visit (number_in all k) (held_at (number_in all) k (table ps)) (entries_of (number_in all) (suc k) (key_texts ps ++ preorder_values ps)) (has.reads k (table ps) at.0 at.1)
         (subst (Walks f (map (number_in all) (key_places (suc k) ps) ++ map (number_in all) (value_places start ps))) (sym (entries-append (number_in all) (suc k) (key_texts ps) (preorder_values ps))) both)
 
-    walk_items : (vs : Items) (k : ℕ) → Stands all k (preorder_items vs) → Walks f (map (number_in all) (item_places k vs)) (entries_of (number_in all) k (preorder_items vs))
+    walk_items : (vs : Items) (k : ℕ) → OccursAt all k (preorder_items vs) → Walks f (map (number_in all) (item_places k vs)) (entries_of (number_in all) k (preorder_items vs))
     walk_items no_items k h = end
     walk_items (item v vs) k h =
-        let first = walk_tree v k (Stands-front (preorder v) (preorder_items vs) h) in
-        let others = walk_items vs (k + length (preorder v)) (Stands-rest (preorder v) (preorder_items vs) (length (preorder v)) refl h) in
+        let first = walk_tree v k (OccursAt-front (preorder v) (preorder_items vs) h) in
+        let others = walk_items vs (k + length (preorder v)) (OccursAt-rest (preorder v) (preorder_items vs) (length (preorder v)) refl h) in
         let places = ap (λ n. map (number_in all) (item_places (k + n) vs)) (length-preorder v) in
         subst (Walks f (map (number_in all) (item_places k (item v vs)))) (sym (entries-append (number_in all) k (preorder v) (preorder_items vs)))
         (step (number_in all k) _ (entries_of (number_in all) k (preorder v)) (entries_of (number_in all) (k + length (preorder v)) (preorder_items vs)) first (subst (λ (refs : List ℕ). Walks f refs (entries_of (number_in all) (k + length (preorder v)) (preorder_items vs))) places others))
 
-    walk_values : (ps : Pairs) (k : ℕ) → Stands all k (preorder_values ps) → Walks f (map (number_in all) (value_places k ps)) (entries_of (number_in all) k (preorder_values ps))
+    walk_values : (ps : Pairs) (k : ℕ) → OccursAt all k (preorder_values ps) → Walks f (map (number_in all) (value_places k ps)) (entries_of (number_in all) k (preorder_values ps))
     walk_values no_pairs k h = end
     walk_values (pair key v ps) k h =
-        let first = walk_tree v k (Stands-front (preorder v) (preorder_values ps) h) in
-        let others = walk_values ps (k + length (preorder v)) (Stands-rest (preorder v) (preorder_values ps) (length (preorder v)) refl h) in
+        let first = walk_tree v k (OccursAt-front (preorder v) (preorder_values ps) h) in
+        let others = walk_values ps (k + length (preorder v)) (OccursAt-rest (preorder v) (preorder_values ps) (length (preorder v)) refl h) in
         let places = ap (λ n. map (number_in all) (value_places (k + n) ps)) (length-preorder v) in
         subst (Walks f (map (number_in all) (value_places k (pair key v ps)))) (sym (entries-append (number_in all) k (preorder v) (preorder_values ps)))
         (step (number_in all k) _ (entries_of (number_in all) k (preorder v)) (entries_of (number_in all) (k + length (preorder v)) (preorder_values ps)) first (subst (λ (refs : List ℕ). Walks f refs (entries_of (number_in all) (k + length (preorder v)) (preorder_values ps))) places others))
@@ -260,11 +260,11 @@ module _ (f : List ℕ) (all : List Plist) (has : HasObjects f all) where
       let is = number_at k v at in
       omega arith
 
-  meets_from : (rest : List Plist) (k : ℕ) → Stands all k rest → k + length rest ≡ length all → MeetsInOrder f (count_below k (kept_places all)) (entries_of (number_in all) k rest) (length (kept_places all))
+  meets_from : (rest : List Plist) (k : ℕ) → OccursAt all k rest → k + length rest ≡ length all → MeetsInOrder f (count_below k (kept_places all)) (entries_of (number_in all) k rest) (length (kept_places all))
   meets_from [] k h end_is = count_below-end all all 0 k (omega arith)
   meets_from (v ∷ rest) k h end_is =
-      let at = Stands-head v rest h in
-      let others = meets_from rest (suc k) (Stands-tail v rest h) (omega arith) in
+      let at = OccursAt-head v rest h in
+      let others = meets_from rest (suc k) (OccursAt-tail v rest h) (omega arith) in
       let most = first_place-le all k v at.0 in
       elim (cases_lt (first_place all k v) k) [
         | inl before ↦ (let still = count-shared all k v at.0 at.1 before in inr (shared_below v k at.0 at.1 before, shared_scalar v k at.0 at.1 before, rw still at others))
@@ -275,10 +275,10 @@ module _ (f : List ℕ) (all : List Plist) (has : HasObjects f all) where
 pub numbered : (f : List ℕ) (v : Plist) → HasObjects f (preorder v) → IsNumberedInPreorder f
 numbered f v has =
     let all = preorder v in
-    let stands = Stands-all all in
+    let stands = OccursAt-all all in
     let entries = entries_of (number_in all) 0 all in
-    let met = meets_from f all has all 0 stands (omega arith) in
-    let from_none = subst (λ (n : ℕ). MeetsInOrder f n entries (length (kept_places all))) (count_below-none all all 0 0 (omega arith)) met in
+    let seen = meets_from f all has all 0 stands (omega arith) in
+    let from_none = subst (λ (n : ℕ). MeetsInOrder f n entries (length (kept_places all))) (count_below-none all all 0 0 (omega arith)) seen in
     let order = in_order f [] entries 0 (trailer_of f).count AreBelow-none (AreInOrder-none f) (subst (λ (n : ℕ). MeetsInOrder f 0 entries n) (sym has.counted) from_none) in
     record {
       entries = entries;

@@ -16,7 +16,7 @@ use Rattle.plist_canon.specs.Rules.{HasAscendingKeys}
 use Rattle.plist_canon.specs.declared.weights.Weight.{Weight}
 use Rattle.plist_canon.specs.Weights.{weight_of, payload_of_weight, Weighs}
 use Rattle.plist_canon.specs.Preorders.{Group, grouped, groups_of}
-use Rattle.plist_canon.specs.Owing.{Named, AllNamed, nodes_named, payload_named, AreWithin, Owes, Pays}
+use Rattle.plist_canon.specs.Remaining.{Referred, AllReferred, nodes_referred, payload_referred, AreWithin, HasLeft, Takes}
 use Rattle.plist_canon.proofs.Entries.{put_texts}
 use Rattle.plist_canon.proofs.Visiting.{Weighs-held}
 use Rattle.plist_canon.proofs.TableParts.{some_nodes, table_parts}
@@ -115,25 +115,25 @@ weight_least f i weight weighs v spells =
     subst (λ (w : Weight). payload_of_weight w ≤ payload v) (sym weighs.is) (held_least f i weighs.held weighs.holds v spells)
 
 -- the values that are left before and after a step of the walk
-pub record Step (f : List ℕ) (groups : List Group) (named : AllNamed f groups) (others : List Group) (spent payload_spent : ℕ) : Type 0 where
-  pub later : AllNamed f others
-  pub nodes_are : nodes_named f groups named ≡ spent + nodes_named f others later
-  pub payload_is : payload_named f groups named ≡ payload_spent + payload_named f others later
-  pub within : AreWithin f groups named → AreWithin f others later
-  pub back : AreWithin f others later → AreWithin f groups named
+pub record Step (f : List ℕ) (groups : List Group) (referred : AllReferred f groups) (others : List Group) (spent payload_spent : ℕ) : Type 0 where
+  pub later : AllReferred f others
+  pub nodes_are : nodes_referred f groups referred ≡ spent + nodes_referred f others later
+  pub payload_is : payload_referred f groups referred ≡ payload_spent + payload_referred f others later
+  pub within : AreWithin f groups referred → AreWithin f others later
+  pub back : AreWithin f others later → AreWithin f groups referred
 
-spent_step : (f : List ℕ) (groups others : List Group) (before after : Budget) (n p : ℕ) → Spends before n p after → (p ≤ MAX_PAYLOAD → (named : AllNamed f groups) → Step f groups named others n p) → Owes f groups (Some before) → Owes f others (Some after)
-spent_step f groups others before after n p spends step owes v valid spells =
-    let o = owes v valid spells in
+spent_step : (f : List ℕ) (groups others : List Group) (before after : Budget) (n p : ℕ) → Spends before n p after → (p ≤ MAX_PAYLOAD → (referred : AllReferred f groups) → Step f groups referred others n p) → HasLeft f groups (Some before) → HasLeft f others (Some after)
+spent_step f groups others before after n p spends step has_left v valid spells =
+    let o = has_left v valid spells in
     let a = spends in
     let most = o.payload_most in
-    let s = step (omega arith) o.named in
+    let s = step (omega arith) o.referred in
     let b = o.nodes_left in
     let c = o.payload_left in
     let d = s.nodes_are in
     let e = s.payload_is in
     record {
-      named = s.later;
+      referred = s.later;
       nodes_left = omega arith;
       payload_left = omega arith;
       payload_most = omega arith;
@@ -142,17 +142,17 @@ spent_step f groups others before after n p spends step owes v valid spells =
     }
 
 -- a step that takes nothing
-moves : (f : List ℕ) (groups others : List Group) (left : Option Budget) → ((named : AllNamed f groups) → Step f groups named others 0 0) → Owes f groups left → Owes f others left
-moves f groups others None step owes = owes
-moves f groups others (Some left) step owes =
-    spent_step f groups others left left 0 0 (record { nodes_left = omega arith; payload_left = omega arith }) (λ most. step) owes
+moves : (f : List ℕ) (groups others : List Group) (left : Option Budget) → ((referred : AllReferred f groups) → Step f groups referred others 0 0) → HasLeft f groups left → HasLeft f others left
+moves f groups others None step has_left = has_left
+moves f groups others (Some left) step has_left =
+    spent_step f groups others left left 0 0 (record { nodes_left = omega arith; payload_left = omega arith }) (λ most. step) has_left
 
 module _ (f : List ℕ) (owner levels i : ℕ) (refs : List ℕ) (outer : List Group) (weight : Weight) (weighs : Weighs f i weight) where
   -- the first object is too deep or takes too much
-  passes_limit : (before : Budget) → (1 ≤ levels → IsOver before 1 (payload_of_weight weight)) → Owes f (grouped owner levels (i ∷ refs) ∷ outer) (Some before) → (v : Plist) → IsPlist v → Spells f 0 v → ¬ Fits v
-  passes_limit before over owes v valid spells fits =
-      let o = owes v valid spells in
-      let first = o.named.0 in
+  passes_limit : (before : Budget) → (1 ≤ levels → IsOver before 1 (payload_of_weight weight)) → HasLeft f (grouped owner levels (i ∷ refs) ∷ outer) (Some before) → (v : Plist) → IsPlist v → Spells f 0 v → ¬ Fits v
+  passes_limit before over has_left v valid spells fits =
+      let o = has_left v valid spells in
+      let first = o.referred.0 in
       let n = first_item f i refs first.items first.spelled in
       let least = weight_least f i weight weighs n.value n.spells in
       let some = some_depth n.value in
@@ -168,15 +168,15 @@ module _ (f : List ℕ) (owner levels i : ℕ) (refs : List ℕ) (outer : List G
       over (omega arith) (omega arith) (omega arith)
 
   -- the first object is counted
-  paid : (others : List Group) (before after : Option Budget) → (1 ≤ levels → payload_of_weight weight ≤ MAX_PAYLOAD → (named : AllNamed f (grouped owner levels (i ∷ refs) ∷ outer)) → Step f (grouped owner levels (i ∷ refs) ∷ outer) named others 1 (payload_of_weight weight)) → Pays levels weight before after → Owes f (grouped owner levels (i ∷ refs) ∷ outer) before → Owes f others after
-  paid others None after step pays owes = subst (λ (left : Option Budget). Owes f others left) (sym pays) owes
-  paid others (Some before) None step pays owes = passes_limit before pays owes
-  paid others (Some before) (Some after) step pays owes =
-      spent_step f (grouped owner levels (i ∷ refs) ∷ outer) others before after 1 (payload_of_weight weight) pays.1 (step pays.0) owes
+  taken : (others : List Group) (before after : Option Budget) → (1 ≤ levels → payload_of_weight weight ≤ MAX_PAYLOAD → (referred : AllReferred f (grouped owner levels (i ∷ refs) ∷ outer)) → Step f (grouped owner levels (i ∷ refs) ∷ outer) referred others 1 (payload_of_weight weight)) → Takes levels weight before after → HasLeft f (grouped owner levels (i ∷ refs) ∷ outer) before → HasLeft f others after
+  taken others None after step takes has_left = subst (λ (left : Option Budget). HasLeft f others left) (sym takes) has_left
+  taken others (Some before) None step takes has_left = passes_limit before takes has_left
+  taken others (Some before) (Some after) step takes has_left =
+      spent_step f (grouped owner levels (i ∷ refs) ∷ outer) others before after 1 (payload_of_weight weight) takes.1 (step takes.0) has_left
 
-  scalar_step : HoldsScalar f i → 1 ≤ levels → payload_of_weight weight ≤ MAX_PAYLOAD → (named : AllNamed f (grouped owner levels (i ∷ refs) ∷ outer)) → Step f (grouped owner levels (i ∷ refs) ∷ outer) named (grouped owner levels refs ∷ outer) 1 (payload_of_weight weight)
-  scalar_step held some most named =
-      let first = named.0 in
+  scalar_step : HoldsScalar f i → 1 ≤ levels → payload_of_weight weight ≤ MAX_PAYLOAD → (referred : AllReferred f (grouped owner levels (i ∷ refs) ∷ outer)) → Step f (grouped owner levels (i ∷ refs) ∷ outer) referred (grouped owner levels refs ∷ outer) 1 (payload_of_weight weight)
+  scalar_step held some most referred =
+      let first = referred.0 in
       let n = first_item f i refs first.items first.spelled in
       let both : AreItems (item n.value n.others) = subst AreItems n.is first.valid in
       let costs = scalar_costs f i weight held.0 weighs held.1 most n.value n.spells in
@@ -187,7 +187,7 @@ module _ (f : List ℕ) (owner levels i : ℕ) (refs : List ℕ) (outer : List G
       let g : payload_of_items first.items ≡ payload n.value + payload_of_items n.others = ap payload_of_items n.is in
       let h : depth_of_items first.items ≡ max (depth n.value) (depth_of_items n.others) = ap depth_of_items n.is in
       record {
-        later = (record { items = n.others; valid = both.1; spelled = n.later }, named.1);
+        later = (record { items = n.others; valid = both.1; spelled = n.later }, referred.1);
         nodes_are = omega arith;
         payload_is = omega arith;
         within = λ w. (let d = w.0 in omega arith, w.1);
@@ -195,18 +195,18 @@ module _ (f : List ℕ) (owner levels i : ℕ) (refs : List ℕ) (outer : List G
       }
 
   -- a reference to a scalar is skipped
-  pub Owes-passed : (before after : Option Budget) → HoldsScalar f i → Pays levels weight before after → Owes f (grouped owner levels (i ∷ refs) ∷ outer) before → Owes f (grouped owner levels refs ∷ outer) after
-  Owes-passed before after held = paid (grouped owner levels refs ∷ outer) before after (scalar_step held)
+  pub HasLeft-passed : (before after : Option Budget) → HoldsScalar f i → Takes levels weight before after → HasLeft f (grouped owner levels (i ∷ refs) ∷ outer) before → HasLeft f (grouped owner levels refs ∷ outer) after
+  HasLeft-passed before after held = taken (grouped owner levels refs ∷ outer) before after (scalar_step held)
 
-pub Owes-popped : (f : List ℕ) (owner levels : ℕ) (outer : List Group) (left : Option Budget) → Owes f (grouped owner levels [] ∷ outer) left → Owes f outer left
-Owes-popped f owner levels outer left = moves f (grouped owner levels [] ∷ outer) outer left (λ named.
-    let first = named.0 in
+pub HasLeft-popped : (f : List ℕ) (owner levels : ℕ) (outer : List Group) (left : Option Budget) → HasLeft f (grouped owner levels [] ∷ outer) left → HasLeft f outer left
+HasLeft-popped f owner levels outer left = moves f (grouped owner levels [] ∷ outer) outer left (λ referred.
+    let first = referred.0 in
     let none = no_items_left f first.items first.spelled in
     let e : nodes_of_items first.items ≡ 0 = ap nodes_of_items none in
     let g : payload_of_items first.items ≡ 0 = ap payload_of_items none in
     let h : depth_of_items first.items ≡ 0 = ap depth_of_items none in
     record {
-      later = named.1;
+      later = referred.1;
       nodes_are = omega arith;
       payload_is = omega arith;
       within = λ w. w.1;
@@ -214,9 +214,9 @@ Owes-popped f owner levels outer left = moves f (grouped owner levels [] ∷ out
     })
 
 -- the first reference, split off
-pub Owes-parted : (f : List ℕ) (owner levels i : ℕ) (refs : List ℕ) (outer : List Group) (left : Option Budget) → Owes f (grouped owner levels (i ∷ refs) ∷ outer) left → Owes f (grouped owner levels (i ∷ []) ∷ grouped owner levels refs ∷ outer) left
-Owes-parted f owner levels i refs outer left = moves f (grouped owner levels (i ∷ refs) ∷ outer) (grouped owner levels (i ∷ []) ∷ grouped owner levels refs ∷ outer) left (λ named.
-    let first = named.0 in
+pub HasLeft-parted : (f : List ℕ) (owner levels i : ℕ) (refs : List ℕ) (outer : List Group) (left : Option Budget) → HasLeft f (grouped owner levels (i ∷ refs) ∷ outer) left → HasLeft f (grouped owner levels (i ∷ []) ∷ grouped owner levels refs ∷ outer) left
+HasLeft-parted f owner levels i refs outer left = moves f (grouped owner levels (i ∷ refs) ∷ outer) (grouped owner levels (i ∷ []) ∷ grouped owner levels refs ∷ outer) left (λ referred.
+    let first = referred.0 in
     let n = first_item f i refs first.items first.spelled in
     let both : AreItems (item n.value n.others) = subst AreItems n.is first.valid in
     let e : nodes_of_items first.items ≡ nodes n.value + nodes_of_items n.others = ap nodes_of_items n.is in
@@ -225,7 +225,7 @@ Owes-parted f owner levels i refs outer left = moves f (grouped owner levels (i 
     record {
       later = (
         record { items = item n.value no_items; valid = (both.0, tt); spelled = (n.spells, refl) },
-        (record { items = n.others; valid = both.1; spelled = n.later }, named.1),
+        (record { items = n.others; valid = both.1; spelled = n.later }, referred.1),
       );
       nodes_are = omega arith;
       payload_is = omega arith;
@@ -235,14 +235,14 @@ Owes-parted f owner levels i refs outer left = moves f (grouped owner levels (i 
 
 -- what an array or dictionary takes, and its items
 record OpenedList (f refs : List ℕ) (v : Plist) : Type 0 where
-  items : Named f (grouped 0 0 refs)
+  items : Referred f (grouped 0 0 refs)
   nodes_are : nodes v ≡ 1 + nodes_of_items items.items
   payload_is : payload v ≡ payload_of_items items.items
   depth_is : depth v ≡ 1 + depth_of_items items.items
 
 record OpenedTable (f keys values : List ℕ) (v : Plist) : Type 0 where
-  texts : Named f (grouped 0 0 keys)
-  items : Named f (grouped 0 0 values)
+  texts : Referred f (grouped 0 0 keys)
+  items : Referred f (grouped 0 0 values)
   nodes_are : nodes v ≡ 1 + (nodes_of_items texts.items + nodes_of_items items.items)
   payload_is : payload v ≡ payload_of_items texts.items + payload_of_items items.items
   depth_is : depth v ≡ 1 + depth_of_items items.items
@@ -276,9 +276,9 @@ module _ (f : List ℕ) (owner levels i : ℕ) (outer : List Group) (weight : We
   abbrev before_it : List Group
   before_it = grouped owner levels (i ∷ []) ∷ outer
 
-  opening : (held : Held) → Holds f i held → IsHeld held → 1 ≤ levels → payload_of_weight weight ≤ MAX_PAYLOAD → (named : AllNamed f before_it) → Step f before_it named (groups_of i (levels - 1) held ++ outer) 1 (payload_of_weight weight)
-  opening (holds_scalar s) holds valid some most named =
-      let n = lone_item f i named.0.items named.0.valid named.0.spelled in
+  opening : (held : Held) → Holds f i held → IsHeld held → 1 ≤ levels → payload_of_weight weight ≤ MAX_PAYLOAD → (referred : AllReferred f before_it) → Step f before_it referred (groups_of i (levels - 1) held ++ outer) 1 (payload_of_weight weight)
+  opening (holds_scalar s) holds valid some most referred =
+      let n = lone_item f i referred.0.items referred.0.valid referred.0.spelled in
       let costs = scalar_costs f i weight s weighs holds most n.value n.spells in
       let a = costs.nodes_are in
       let b = costs.payload_is in
@@ -287,14 +287,14 @@ module _ (f : List ℕ) (owner levels i : ℕ) (outer : List Group) (weight : We
       let e = n.payload_is in
       let g = n.depth_is in
       record {
-        later = named.1;
+        later = referred.1;
         nodes_are = omega arith;
         payload_is = omega arith;
         within = λ w. w.1;
         back = λ w. (omega arith, w);
       }
-  opening (holds_list refs) holds valid some most named =
-      let n = lone_item f i named.0.items named.0.valid named.0.spelled in
+  opening (holds_list refs) holds valid some most referred =
+      let n = lone_item f i referred.0.items referred.0.valid referred.0.spelled in
       let o = opened_list f i refs holds n.value n.valid n.spells in
       let none : payload_of_weight weight ≡ 0 = ap payload_of_weight (Weighs-held f i weight (holds_list refs) weighs holds) in
       let a = o.nodes_are in
@@ -304,14 +304,14 @@ module _ (f : List ℕ) (owner levels i : ℕ) (outer : List Group) (weight : We
       let e = n.payload_is in
       let g = n.depth_is in
       record {
-        later = (record { items = o.items.items; valid = o.items.valid; spelled = o.items.spelled }, named.1);
+        later = (record { items = o.items.items; valid = o.items.valid; spelled = o.items.spelled }, referred.1);
         nodes_are = omega arith;
         payload_is = omega arith;
         within = λ w. (let k = w.0 in omega arith, w.1);
         back = λ w. (let k = w.0 in omega arith, w.1);
       }
-  opening (holds_table keys values) holds valid some most named =
-      let n = lone_item f i named.0.items named.0.valid named.0.spelled in
+  opening (holds_table keys values) holds valid some most referred =
+      let n = lone_item f i referred.0.items referred.0.valid referred.0.spelled in
       let o = opened_table f i keys values valid holds ascending n.value n.valid n.spells in
       let none : payload_of_weight weight ≡ 0 = ap payload_of_weight (Weighs-held f i weight (holds_table keys values) weighs holds) in
       let a = o.nodes_are in
@@ -324,7 +324,7 @@ module _ (f : List ℕ) (owner levels i : ℕ) (outer : List Group) (weight : We
       record {
         later = (
           record { items = o.texts.items; valid = o.texts.valid; spelled = o.texts.spelled },
-          (record { items = o.items.items; valid = o.items.valid; spelled = o.items.spelled }, named.1),
+          (record { items = o.items.items; valid = o.items.valid; spelled = o.items.spelled }, referred.1),
         );
         nodes_are = omega arith;
         payload_is = omega arith;
@@ -333,14 +333,14 @@ module _ (f : List ℕ) (owner levels i : ℕ) (outer : List Group) (weight : We
       }
 
   -- the object is visited for the first time
-  pub Owes-entered : (octets : AreOctets f) (held : Held) (before after : Option Budget) → Holds f i held → Pays levels weight before after → Owes f before_it before → Owes f (groups_of i (levels - 1) held ++ outer) after
-  Owes-entered octets held before after holds =
-      paid f owner levels i [] outer weight weighs (groups_of i (levels - 1) held ++ outer) before after (opening held holds (Holds-held f i held octets holds))
+  pub HasLeft-entered : (octets : AreOctets f) (held : Held) (before after : Option Budget) → Holds f i held → Takes levels weight before after → HasLeft f before_it before → HasLeft f (groups_of i (levels - 1) held ++ outer) after
+  HasLeft-entered octets held before after holds =
+      taken f owner levels i [] outer weight weighs (groups_of i (levels - 1) held ++ outer) before after (opening held holds (Holds-held f i held octets holds))
 
 -- before the walk
-pub Owes-start : (f : List ℕ) (whole : Budget) → whole.nodes ≡ MAX_NODES → whole.payload ≡ MAX_PAYLOAD → Owes f (grouped 0 MAX_DEPTH (0 ∷ []) ∷ []) (Some whole)
-Owes-start f whole all_nodes all_payload v valid spells = record {
-  named = (record { items = item v no_items; valid = (valid, tt); spelled = (spells, refl) }, tt);
+pub HasLeft-start : (f : List ℕ) (whole : Budget) → whole.nodes ≡ MAX_NODES → whole.payload ≡ MAX_PAYLOAD → HasLeft f (grouped 0 MAX_DEPTH (0 ∷ []) ∷ []) (Some whole)
+HasLeft-start f whole all_nodes all_payload v valid spells = record {
+  referred = (record { items = item v no_items; valid = (valid, tt); spelled = (spells, refl) }, tt);
   nodes_left = omega arith;
   payload_left = omega arith;
   payload_most = omega arith;
@@ -349,9 +349,9 @@ Owes-start f whole all_nodes all_payload v valid spells = record {
 }
 
 -- after the walk
-pub Owes-end : (f : List ℕ) (left : Budget) → Owes f [] (Some left) → (v : Plist) → IsPlist v → Spells f 0 v → Fits v
-Owes-end f left owes v valid spells =
-    let o = owes v valid spells in
+pub HasLeft-end : (f : List ℕ) (left : Budget) → HasLeft f [] (Some left) → (v : Plist) → IsPlist v → Spells f 0 v → Fits v
+HasLeft-end f left has_left v valid spells =
+    let o = has_left v valid spells in
     let a = o.nodes_left in
     let b = o.payload_left in
     record { nodes_fit = omega arith; depth_fits = o.deep tt; payload_fits = omega arith }

@@ -224,25 +224,25 @@ IsWalking-start f levels held holds = record {
   visited = AreBelow-new [] 0 AreBelow-none;
 }
 
-module _ (f : List ℕ) (met : ℕ) where
-  module _ (holder i : ℕ) (left : List Reference) (walking : IsWalking f met (reference holder i ∷ left)) where
+module _ (f : List ℕ) (seen : ℕ) where
+  module _ (holder i : ℕ) (left : List Reference) (walking : IsWalking f seen (reference holder i ∷ left)) where
     -- a reference to a visited scalar
-    pub IsWalking-passed : i < met → HoldsScalar f i → IsWalking f met left
+    pub IsWalking-passed : i < seen → HoldsScalar f i → IsWalking f seen left
     IsWalking-passed below scalar = record {
       entries = walking.entries ++ (i ∷ []);
       comes = goes_on walking.entries holder i (holds_scalar scalar.0) left walking.comes (inr ((walking.visited i).1 below, scalar)) scalar.1;
-      visited = AreBelow-known walking.entries met walking.visited i below;
+      visited = AreBelow-known walking.entries seen walking.visited i below;
     }
 
     -- any other reference, except to the next object
-    pub IsWalking-other : ¬ ((i ≡ met) × (met < (trailer_of f).count)) → (i < met → ¬ HoldsScalar f i) → IsBroken f 7 holder
+    pub IsWalking-other : ¬ ((i ≡ seen) × (seen < (trailer_of f).count)) → (i < seen → ¬ HoldsScalar f i) → IsBroken f 7 holder
     IsWalking-other other known =
         let turns : TurnsAt f holder = record {
           entries = walking.entries;
           number = i;
           left = left;
           comes = walking.comes;
-          other = λ listed order. elim (new_or_known walking.entries met walking.visited f i order) [
+          other = λ listed order. elim (new_or_known walking.entries seen walking.visited f i order) [
             | inl new ↦ other (new, omega arith)
             | inr again ↦ known again.0 again.1
           ];
@@ -250,25 +250,25 @@ module _ (f : List ℕ) (met : ℕ) where
         breaks_c7 holder (TurnsAt-unnumbered f holder turns) turns
 
   -- a reference to the next object
-  pub IsWalking-met : (holder : ℕ) (outer : List Group) (levels : ℕ) (held : Held) → IsWalking f met (reference holder met ∷ references_left outer) → Holds f met held → IsWalking f (suc met) (references_left (groups_of met levels held ++ outer))
-  IsWalking-met holder outer levels held walking holds = record {
-    entries = walking.entries ++ (met ∷ []);
-    comes = subst (ComesTo f (walking.entries ++ (met ∷ []))) (sym (references-entered met levels held outer)) (goes_on walking.entries holder met held (references_left outer) walking.comes (inl walking.visited) holds);
-    visited = AreBelow-new walking.entries met walking.visited;
+  pub IsWalking-seen : (holder : ℕ) (outer : List Group) (levels : ℕ) (held : Held) → IsWalking f seen (reference holder seen ∷ references_left outer) → Holds f seen held → IsWalking f (suc seen) (references_left (groups_of seen levels held ++ outer))
+  IsWalking-seen holder outer levels held walking holds = record {
+    entries = walking.entries ++ (seen ∷ []);
+    comes = subst (ComesTo f (walking.entries ++ (seen ∷ []))) (sym (references-entered seen levels held outer)) (goes_on walking.entries holder seen held (references_left outer) walking.comes (inl walking.visited) holds);
+    visited = AreBelow-new walking.entries seen walking.visited;
   }
 
-  pub IsWalking-over : IsWalking f met [] → met < (trailer_of f).count → IsBroken f 7 0
+  pub IsWalking-over : IsWalking f seen [] → seen < (trailer_of f).count → IsBroken f 7 0
   IsWalking-over walking below =
       let left : LeavesOver f = record {
         entries = walking.entries;
         comes = walking.comes;
-        object = met;
+        object = seen;
         over = below;
-        missed = λ among. (let own = (walking.visited met).0 among in omega arith);
+        missed = λ among. (let own = (walking.visited seen).0 among in omega arith);
       } in
       leaves_over (LeavesOver-unnumbered f left) left
 
-  pub IsWalking-done : IsWalking f met [] → met ≡ (trailer_of f).count → IsNumberedInPreorder f
+  pub IsWalking-done : IsWalking f seen [] → seen ≡ (trailer_of f).count → IsNumberedInPreorder f
   IsWalking-done walking all = record {
     entries = walking.entries;
     walk = subst (Walk f 0) (append-nil walking.entries) (ComesTo-walk f walking.entries [] [] walking.comes end);

@@ -13,7 +13,7 @@ use Rattle.plist_canon.specs.Rules.{keys_of, HoldTexts, IsWellRead, HasAscending
 use Rattle.plist_engine.specs.Found.{held_at}
 use Rattle.plist_engine.specs.Sharing.{value_at}
 use Rattle.plist_engine.specs.Tree.{key_texts, preorder, preorder_items, preorder_values, item_places, key_places, value_places}
-use Rattle.plist_engine.proofs.Trees.{length-preorder, length-key_places, Stands-all}
+use Rattle.plist_engine.proofs.Trees.{length-preorder, length-key_places, OccursAt-all}
 use Rattle.plist_engine.proofs.Sizes.{item_count}
 use Rattle.plist_engine.proofs.Spelled.{Spells-tree}
 use Rattle.plist_object.proofs.Uniqueness.{same_held}
@@ -196,7 +196,7 @@ held-walked f i entries tree k v at below =
 pub Spells-walked : (f : List ℕ) (i : ℕ) (entries : List ℕ) (tree : WalkedTree f i entries) → Spells f i tree.value
 Spells-walked f i entries tree =
     let number : ℕ → ℕ = λ k. get_or entries k 0 in
-    let spells = Spells-tree f (preorder tree.value) number (held-walked f i entries tree) tree.value 0 (Stands-all (preorder tree.value)) in
+    let spells = Spells-tree f (preorder tree.value) number (held-walked f i entries tree) tree.value 0 (OccursAt-all (preorder tree.value)) in
     subst (λ n. Spells f n tree.value) (tree.top number 0 (AreNumbers-own entries)) spells
 
 module _ (f : List ℕ) (octets : AreOctets f) (read : (i : ℕ) → i < (trailer_of f).count → IsWellRead f i) (ascending : (i : ℕ) → i < (trailer_of f).count → HasAscendingKeys f i) where

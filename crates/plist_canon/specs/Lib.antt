@@ -12,7 +12,7 @@ pub mod Checking
 pub mod Codes
 pub mod Weights
 pub mod Visited
-pub mod Met
+pub mod Seen
 pub mod Preorders
-pub mod Owing
+pub mod Remaining
 pub mod Steps

@@ -8,11 +8,11 @@ use Rattle.plist_canon.specs.Weights.{container, is_scalar_weight}
 use Rattle.plist_canon.specs.declared.weights.Weight.{Weight}
 use Rattle.plist_canon.specs.declared.preorder.Frame.{Frame}
 
--- The objects below `met` were visited in order, and the walk continues with these references.
-pub record IsWalking (f : List ℕ) (met : ℕ) (left : List Reference) : Type 0 where
+-- The objects below `seen` were visited in order, and the walk continues with these references.
+pub record IsWalking (f : List ℕ) (seen : ℕ) (left : List Reference) : Type 0 where
   pub entries : List ℕ
   pub comes : ComesTo f entries left
-  pub visited : (i : ℕ) → Contains entries i ↔ i < met
+  pub visited : (i : ℕ) → Contains entries i ↔ i < seen
 
 -- references of one container, and the depth allowed for the values that they refer to
 pub record Group : Type 0 where
@@ -44,5 +44,5 @@ groups_of owner levels (holds_list refs) = grouped owner levels refs ∷ []
 groups_of owner levels (holds_table keys values) = grouped owner levels keys ∷ grouped owner levels values ∷ []
 
 -- the number is not that of a visited scalar, if these are the weights of the visited objects
-abbrev pub IsNoneMet : List Weight → ℕ → Type 0
-IsNoneMet weights i = i < length weights → is_scalar_weight (slice_index_or weights i container) ≡ false
+abbrev pub IsNoneSeen : List Weight → ℕ → Type 0
+IsNoneSeen weights i = i < length weights → is_scalar_weight (slice_index_or weights i container) ≡ false

@@ -17,23 +17,23 @@ use Rattle.plist_canon.specs.Rules.{IsNumberedInPreorder, IsBroken}
 use Rattle.plist_canon.specs.Checking.{AllRead, AllAscend}
 use Rattle.plist_canon.specs.Weights.{container, weight_of, is_scalar_weight, AreWeights}
 use Rattle.plist_canon.specs.Preorders.{IsWalking, Group, grouped, groups_of, references_left, frame_group, path_groups}
-use Rattle.plist_canon.specs.Owing.{Owes, Pays}
+use Rattle.plist_canon.specs.Remaining.{HasLeft, Takes}
 
--- The objects below `met` were visited, and the groups are left.
-pub record Stands (f : List ℕ) (met : ℕ) (left : Option Budget) (groups : List Group) : Type 0 where
-  pub walking : IsWalking f met (references_left groups)
-  pub owed : AreOctets f → AllAscend f → Owes f groups left
+-- The objects below `seen` were visited, and the groups are left.
+pub record HasVisited (f : List ℕ) (seen : ℕ) (left : Option Budget) (groups : List Group) : Type 0 where
+  pub walking : IsWalking f seen (references_left groups)
+  pub limits : AreOctets f → AllAscend f → HasLeft f groups left
 
 -- the reference points to a visited scalar, if these are the weights of the visited objects
 pub record Passes (weights : List Weight) (levels i : ℕ) (before after : Option Budget) : Type 0 where
   pub listed : i < length weights
   pub is_scalar : is_scalar_weight (slice_index_or weights i container) ≡ true
-  pub pays : Pays levels (slice_index_or weights i container) before after
+  pub takes : Takes levels (slice_index_or weights i container) before after
 
 -- the walk gets from the first groups to the others by skipping scalars of these weights
 abbrev pub GoesOn : List Weight → List Group → Option Budget → List Group → Option Budget → Type 0
 GoesOn weights groups before others after =
-    (f : List ℕ) → AreWeights f weights → Stands f (length weights) before groups → Stands f (length weights) after others
+    (f : List ℕ) → AreWeights f weights → HasVisited f (length weights) before groups → HasVisited f (length weights) after others
 
 -- the walk gets from the first group to the other, whatever follows them
 abbrev pub GroupGoesOn : List Weight → Group → Option Budget → Group → Option Budget → Type 0
@@ -54,31 +54,31 @@ PathGoesOn weights old before (Some visit) new after =
 PathGoesOn weights old before None new after = GoesOn weights (path_groups old) before [] after
 
 -- the state after visiting this number of objects; before the first one nothing is spent
-abbrev pub StandsAfter : List ℕ → ℕ → Option Budget → List Group → Type 0
-StandsAfter f zero left groups = (groups ≡ []) × Owes f (grouped 0 MAX_DEPTH (0 ∷ []) ∷ []) left
-StandsAfter f (suc before) left groups = Stands f (suc before) left groups
+abbrev pub HasVisitedFirst : List ℕ → ℕ → Option Budget → List Group → Type 0
+HasVisitedFirst f zero left groups = (groups ≡ []) × HasLeft f (grouped 0 MAX_DEPTH (0 ∷ []) ∷ []) left
+HasVisitedFirst f (suc before) left groups = HasVisited f (suc before) left groups
 
 -- the object is visited next, with `levels` allowed, and then the groups are left
 abbrev pub Awaits : List ℕ → ℕ → ℕ → Option Budget → List Group → Type 0
 Awaits f i levels left groups =
-    (held : Held) (after : Option Budget) → Holds f i held → Pays levels (weight_of held) left after → Stands f (suc i) after (groups_of i (levels - 1) held ++ groups)
+    (held : Held) (after : Option Budget) → Holds f i held → Takes levels (weight_of held) left after → HasVisited f (suc i) after (groups_of i (levels - 1) held ++ groups)
 
 -- the walk gets to the next object, with the levels allowed there, or breaks rule 7
 abbrev pub ComesToNext : List Weight → List Frame → Option Budget → Result ℕ ℕ → List Frame → Option Budget → Type 0
 ComesToNext weights old before (Ok levels) new after =
-    (f : List ℕ) → AreWeights f weights → StandsAfter f (length weights) before (path_groups old) → Awaits f (length weights) levels after (path_groups new)
+    (f : List ℕ) → AreWeights f weights → HasVisitedFirst f (length weights) before (path_groups old) → Awaits f (length weights) levels after (path_groups new)
 ComesToNext weights old before (Err owner) new after =
-    (f : List ℕ) → AreWeights f weights → StandsAfter f (length weights) before (path_groups old) → length weights < (trailer_of f).count → IsBroken f 7 owner
+    (f : List ℕ) → AreWeights f weights → HasVisitedFirst f (length weights) before (path_groups old) → length weights < (trailer_of f).count → IsBroken f 7 owner
 
 -- the walk visited the objects below i, and no others
-pub record MetInTurn (f : List ℕ) (i : ℕ) (walk : Walk) : Type 0 where
+pub record SeenInTurn (f : List ℕ) (i : ℕ) (walk : Walk) : Type 0 where
   pub counted : length walk.weights.items ≡ i
   pub weighed : AreWeights f walk.weights.items
-  pub stands : StandsAfter f (length walk.weights.items) walk.left (path_groups walk.path.items)
+  pub stands : HasVisitedFirst f (length walk.weights.items) walk.left (path_groups walk.path.items)
 
 -- the objects below i were handled: the walk visited them, or rule 7 is broken
 abbrev pub Walked : List ℕ → ℕ → Walk → Type 0
-Walked f i walk = MatchOption walk.broken_at (MetInTurn f i walk) (λ holder. IsBroken f 7 holder)
+Walked f i walk = MatchOption walk.broken_at (SeenInTurn f i walk) (λ holder. IsBroken f 7 holder)
 
 -- all objects of a file were handled, can be decoded with valid references, and the keys of each
 -- dictionary ascend

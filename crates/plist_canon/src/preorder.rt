@@ -5,8 +5,8 @@ ghost use Rattle.plist_value.specs.declared.budget.Budget.{Budget};
 ghost use Rattle.plist_object.specs.Places.{Holds};
 ghost use Rattle.plist_object.specs.Views.{held_of, numbers_of};
 ghost use Rattle.plist_canon.specs.Checking.{IsFlaw};
-ghost use Rattle.plist_canon.specs.Preorders.{IsNoneMet, grouped, groups_of, path_groups};
-ghost use Rattle.plist_canon.specs.Owing.{Pays};
+ghost use Rattle.plist_canon.specs.Preorders.{IsNoneSeen, grouped, groups_of, path_groups};
+ghost use Rattle.plist_canon.specs.Remaining.{Takes};
 ghost use Rattle.plist_canon.specs.Steps.{ComesToNext, FrameGoesOn, Passes, PathGoesOn};
 ghost use Rattle.plist_canon.specs.Steps.{Walked, WalkedAll, WalksWithinLimits};
 
@@ -179,7 +179,7 @@ fn push_part<'a>(
 #[inline(always)]
 fn next_visit(path: &mut Vec<Frame>, left: &mut Option<Budget>, weights: &[Weight]) -> Option<Visit>
     ensures goes { PathGoesOn weights.now path.old.items left.old result path.new.items left.new }
-    ensures none { IfSome result (λ visit. IsNoneMet weights.now visit.reference) }
+    ensures none { IfSome result (λ visit. IsNoneSeen weights.now visit.reference) }
 {
     while let Some(frame) = path.last_mut() {
         if let Some((done, reference)) = first_other(frame, left, weights) {
@@ -200,7 +200,7 @@ fn next_visit(path: &mut Vec<Frame>, left: &mut Option<Budget>, weights: &[Weigh
 #[inline(always)]
 fn first_other(frame: &Frame, left: &mut Option<Budget>, weights: &[Weight]) -> Option<(u64, u64)>
     ensures goes { FrameGoesOn weights.now frame.now left.old result left.new }
-    ensures none { IfSome result (λ p. IsNoneMet weights.now p.1) }
+    ensures none { IfSome result (λ p. IsNoneSeen weights.now p.1) }
 {
     for place in frame.done..frame.refs.len() {
         let reference = frame.refs.get(place);
@@ -217,7 +217,7 @@ fn first_other(frame: &Frame, left: &mut Option<Budget>, weights: &[Weight]) -> 
 fn pass(left: &mut Option<Budget>, weights: &[Weight], reference: u64, levels: u64) -> bool
     ensures passed { IsTrue result → Passes weights.now levels reference left.old left.new }
     ensures stays { result ≡ false → left.new ≡ left.old }
-    ensures none { result ≡ false → IsNoneMet weights.now reference }
+    ensures none { result ≡ false → IsNoneSeen weights.now reference }
 {
     if reference >= weights.len() as u64 {
         return false;
@@ -233,7 +233,7 @@ fn pass(left: &mut Option<Budget>, weights: &[Weight], reference: u64, levels: u
 // Returns the budget left after an object of this size; `levels` is the depth still allowed.
 #[inline(always)]
 fn spend(left: Option<Budget>, weight: Weight, levels: u64) -> Option<Budget>
-    ensures { Pays levels weight left result }
+    ensures { Takes levels weight left result }
 {
     if levels == 0 {
         return None;

@@ -5,7 +5,7 @@ ghost use Rattle.plist_object.specs.Views.{octets_of};
 ghost use Rattle.plist_canon.specs.Rules.{IsNoRepeat};
 ghost use Rattle.plist_canon.specs.Checking.{IsFlaw};
 ghost use Rattle.plist_engine.specs.RepeatFilter.{AreAdded, HasAdded};
-ghost use Rattle.plist_canon.specs.Met.{HasMet};
+ghost use Rattle.plist_canon.specs.Seen.{HasSeen};
 
 use crate::judging::Flaw;
 use crate::objects::scalar_of;
@@ -32,9 +32,9 @@ pub(crate) fn judge_repeats<S: BuildHasher + Copy>(
     ensures err { IfErr result (IsFlaw (octets_of file.now)) }
 {
     let filter = builder.build(alloc)?;
-    let mut met = Scalars::new(alloc, hasher, filter.len());
+    let mut seen = Scalars::new(alloc, hasher, filter.len());
     for i in 0..filter.len() {
-        judge_repeat(file, &filter, i, &mut met)?;
+        judge_repeat(file, &filter, i, &mut seen)?;
     }
     Ok(())
 }
@@ -45,14 +45,14 @@ fn judge_repeat<'a, S: BuildHasher + Copy>(
     file: &BinFile<'a>,
     filter: &RepeatFilter,
     i: usize,
-    met: &mut Scalars<'a, S>,
+    seen: &mut Scalars<'a, S>,
 ) -> Result<(), Flaw>
     requires added { HasAdded (octets_of file.now) (length filter.now.bits.items) filter.now }
     requires among { i < length filter.now.bits.items }
     requires listed { i < (trailer_of (octets_of file.now)).count }
-    requires met { HasMet filter.now (octets_of file.now) i met.old }
+    requires seen { HasSeen filter.now (octets_of file.now) i seen.old }
     ensures ok { OnOk result (IsNoRepeat (octets_of file.now) i) }
-    ensures met { OnOk result (HasMet filter.now (octets_of file.now) (suc i) met.new) }
+    ensures seen { OnOk result (HasSeen filter.now (octets_of file.now) (suc i) seen.new) }
     ensures err { IfErr result (IsFlaw (octets_of file.now)) }
 {
     if !filter.may_repeat(i) {
@@ -62,7 +62,7 @@ fn judge_repeat<'a, S: BuildHasher + Copy>(
     let Some(scalar) = scalar_of(file, object) else {
         return Ok(());
     };
-    let earlier = met.enter(scalar, object.min(MOST) as u32)?;
+    let earlier = seen.enter(scalar, object.min(MOST) as u32)?;
     if earlier.is_some() {
         return Err(Flaw::at(Rule::DistinctScalars, object));
     }

@@ -13,10 +13,10 @@ use Rattle.plist_object.specs.Spelling.{references}
 use Rattle.plist_object.specs.Spelled.{Spells, SpellItems, SpellPairs, IsBinary}
 use Rattle.plist_object.specs.Files.{starts, trailer_with}
 use Rattle.plist_draft.specs.Stored.{IsKept, spellings, draft_file, helds_at, Stores}
-use Rattle.plist_draft.specs.Told.{Tells, SpellsBy, SpellItemsBy, SpellPairsBy, SpellsIn, Shows}
+use Rattle.plist_draft.specs.Encoded.{HasContent, SpellsBy, SpellItemsBy, SpellPairsBy, SpellsIn, Shows}
 use Rattle.plist_object.proofs.Files.{length-starts, before_trailer, length-file_with, CanStand, trailer_of-file, is_laid, object_at-file}
 use Rattle.plist_draft.proofs.Storing.{object_in-kept}
-use Rattle.plist_draft.proofs.Telling.{SpellsBy-told}
+use Rattle.plist_draft.proofs.Telling.{SpellsBy-encoded}
 use Rattle.plist_object.proofs.Readable.{what_holds-at}
 
 -- an object has at least one byte
@@ -24,7 +24,7 @@ some_octet : (held : Held) (octets : List ℕ) → object_in 4 (octets ++ []) �
 some_octet held [] read = absurd (cc)
 some_octet held (x ∷ octets) read = omega arith
 
-kept_at : (helds : List Held) (i : ℕ) (held : Held) → AllByRecursion IsKept helds → Tells helds i held → IsKept held
+kept_at : (helds : List Held) (i : ℕ) (held : Held) → AllByRecursion IsKept helds → HasContent helds i held → IsKept held
 kept_at [] i held all tells = absurd (let within = slice_get_within [] i held tells in omega arith)
 kept_at (first ∷ helds) zero held all tells = let same : first ≡ held = cc in subst IsKept same all.0
 kept_at (first ∷ helds) (suc i) held all tells = kept_at helds i held all.1 tells
@@ -59,9 +59,9 @@ mutual
   SpellPairs-holds f (row ∷ rows) (pair key v ps) h = (h.0, Spells-holds f row.1 v h.1, SpellPairs-holds f rows ps h.2)
 
 module _ (helds : List Held) (top : ℕ) (kept : AllByRecursion IsKept helds) (can : CanStand 4 4 top (spellings helds)) where
-  Holds-told : (i : ℕ) (held : Held) → Tells helds i held → Holds (draft_file top helds) i held
+  Holds-encoded : (i : ℕ) (held : Held) → HasContent helds i held → Holds (draft_file top helds) i held
   unfolding draft_file
-  Holds-told i held tells =
+  Holds-encoded i held tells =
       let f = draft_file top helds in
       let within = slice_get_within helds i held tells in
       let listed : length (spellings helds) ≡ length helds = length-map helds (spelling_of 4) in
@@ -77,9 +77,9 @@ module _ (helds : List Held) (top : ℕ) (kept : AllByRecursion IsKept helds) (c
 
   file-spells : (v : Plist) → SpellsIn helds top v → Spells (draft_file top helds) (trailer_of (draft_file top helds)).top v
   unfolding draft_file
-  file-spells v told =
+  file-spells v encoded =
       let f = draft_file top helds in
-      let at_top : Spells f top v = Spells-holds f top v (SpellsBy-told (Tells helds) (Holds f) Holds-told top v told) in
+      let at_top : Spells f top v = Spells-holds f top v (SpellsBy-encoded (HasContent helds) (Holds f) Holds-encoded top v encoded) in
       subst (λ (i : ℕ). Spells f i v) (sym (ap (λ (x : Trailer). x.top) (trailer_of-file 4 4 top (spellings helds) can))) at_top
 
 -- the appended parts are those of the file
@@ -116,13 +116,13 @@ can_stand octets places f top stored short long is within =
 -- the finished bytes are a binary file of the value that the top object encodes
 pub finished : (octets places f : List ℕ) (top : ℕ) (v : Plist) → Stores octets places (helds_at octets places) → AllUnder 4294967296 places → length f < 18446744073709551616 → f ≡ draft_file top (helds_at octets places) → AreOctets f → IsPlist v → Fits v → SpellsIn (helds_at octets places) top v → IsBinary f v
 unfolding draft_file
-finished octets places f top v stored short long is in_range valid fits told =
+finished octets places f top v stored short long is in_range valid fits encoded =
     let helds = helds_at octets places in
-    let can = can_stand octets places f top stored short long is (spells_within helds top v told) in
+    let can = can_stand octets places f top stored short long is (spells_within helds top v encoded) in
     record {
       octets = in_range;
       laid = rw is (is_laid 4 4 top (spellings helds) can);
-      spells = rw is (file-spells helds top stored.kept can v told);
+      spells = rw is (file-spells helds top stored.kept can v encoded);
       valid = valid;
       fits = fits;
     }
@@ -135,5 +135,5 @@ shows octets places f top stored short long is within =
     let can = can_stand octets places f top stored short long is within in
     record {
       topmost = ap (λ xs. (trailer_of xs).top) is ∙ ap (λ (x : Trailer). x.top) (trailer_of-file 4 4 top (spellings helds) can);
-      holds = λ i held tells. rw is (Holds-told helds top stored.kept can i held tells);
+      holds = λ i held tells. rw is (Holds-encoded helds top stored.kept can i held tells);
     }

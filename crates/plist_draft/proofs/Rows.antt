@@ -7,7 +7,7 @@ use Rattle.plist_object.specs.Layout.{header}
 use Rattle.plist_object.specs.Objects.{Held, holds_scalar, holds_table, table_object, marked_object, content, count_of_content}
 use Rattle.plist_object.specs.Places.{octets_at, object_at, what_holds}
 use Rattle.plist_draft.specs.Stored.{draft_file}
-use Rattle.plist_draft.specs.Told.{SpellsIn}
+use Rattle.plist_draft.specs.Encoded.{SpellsIn}
 
 -- the end of a file of fewer than 256 bytes: the number of objects, the top object, and the offset
 -- of the offset table

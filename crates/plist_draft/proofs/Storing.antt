@@ -14,8 +14,8 @@ use Rattle.plist_object.proofs.ReadReferences.{AllFit, object_in-list, object_in
 use Rattle.plist_object.proofs.ReadScalars.{object_in-scalar}
 use Rattle.plist_object.specs.Files.{starts}
 use Rattle.plist_draft.specs.Stored.{IsKept, spellings, held_from, helds_at, Stores, StandsAgain}
-use Rattle.plist_draft.specs.Told.{Tells, Keeps, SpellsIn, SpellItemsIn, SpellPairsIn}
-use Rattle.plist_draft.proofs.Telling.{appending_keeps, Tells-last}
+use Rattle.plist_draft.specs.Encoded.{HasContent, Keeps, SpellsIn, SpellItemsIn, SpellPairsIn}
+use Rattle.plist_draft.proofs.Telling.{appending_keeps, HasContent-last}
 
 -- numbers below 2^32 fit into four bytes
 fit_four : (refs : List ℕ) → AllUnder 4294967296 refs → AllFit 4 refs
@@ -78,7 +78,7 @@ pub record PutsHeld (octets places octets_after places_after : List ℕ) (held :
   pub stored : Stores octets_after places_after (helds_at octets_after places_after)
   pub put : helds_at octets_after places_after ≡ helds_at octets places ++ (held ∷ [])
   pub number : length places ≡ length (helds_at octets places)
-  pub told : Tells (helds_at octets_after places_after) (length places) held
+  pub encoded : HasContent (helds_at octets_after places_after) (length places) held
   pub keeps : Keeps (helds_at octets places) (helds_at octets_after places_after)
 
 pub length-helds_at : (octets places : List ℕ) → length (helds_at octets places) ≡ length places
@@ -94,21 +94,21 @@ puts_held octets places octets_after places_after held stored kept spelled place
       stored = rw put after;
       put = put;
       number = sym (length-helds_at octets places);
-      told = rw (put, sym (length-helds_at octets places)) (Tells-last (helds_at octets places) held);
+      encoded = rw (put, sym (length-helds_at octets places)) (HasContent-last (helds_at octets places) held);
       keeps = rw put (appending_keeps (helds_at octets places) (held ∷ []));
     }
 
 -- an appended scalar, array or dictionary encodes its value
 module _ (octets places octets_after places_after : List ℕ) (number : ℕ) (next : number ≡ length places) where
   pub spells-scalar : (s : Scalar) → PutsHeld octets places octets_after places_after (holds_scalar s) → SpellsIn (helds_at octets_after places_after) number (scalar s)
-  spells-scalar s puts = rw next puts.told
+  spells-scalar s puts = rw next puts.encoded
 
   pub spells-list : (refs : List ℕ) (vs : Items) → PutsHeld octets places octets_after places_after (holds_list refs) → SpellItemsIn (helds_at octets places) refs vs → SpellsIn (helds_at octets_after places_after) number (list vs)
-  spells-list refs vs puts told = (refs, (rw next puts.told, puts.keeps.items refs vs told))
+  spells-list refs vs puts encoded = (refs, (rw next puts.encoded, puts.keeps.items refs vs encoded))
 
   pub spells-table : (keys values : List ℕ) (rows : List (ℕ × ℕ)) (ps : Pairs) → PutsHeld octets places octets_after places_after (holds_table keys values) → IsPermutation (zip keys values) rows → SpellPairsIn (helds_at octets places) rows ps → SpellsIn (helds_at octets_after places_after) number (table ps)
-  spells-table keys values rows ps puts moved told =
-      (keys, (values, (rows, (rw next puts.told, (moved, puts.keeps.pairs rows ps told)))))
+  spells-table keys values rows ps puts moved encoded =
+      (keys, (values, (rows, (rw next puts.encoded, (moved, puts.keeps.pairs rows ps encoded)))))
 
 -- the header alone contains no objects
 pub helds_at-none : (octets places : List ℕ) → places ≡ [] → helds_at octets places ≡ []
@@ -120,7 +120,7 @@ stores_none octets places begun none =
     rw (helds_at-none octets places none) (record { spelled = begun; placed = none; kept = tt })
 
 -- an object that begins with the encoding of a scalar contains this scalar
-pub held-again : (octets places : List ℕ) (number : ℕ) (s : Scalar) → IsScalar s → IsSmall s → StandsAgain octets places number (spelling_of 4 (holds_scalar s)) → Tells (helds_at octets places) number (holds_scalar s)
+pub held-again : (octets places : List ℕ) (number : ℕ) (s : Scalar) → IsScalar s → IsSmall s → StandsAgain octets places number (spelling_of 4 (holds_scalar s)) → HasContent (helds_at octets places) number (holds_scalar s)
 unfolding helds_at
 held-again octets places number s valid small again =
     rw (slice_get-map (held_from octets) places number, again.placed, again.stands, object_in-kept (holds_scalar s) again.behind (valid, small)) refl

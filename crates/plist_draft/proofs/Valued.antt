@@ -6,7 +6,7 @@ use Rattle.std.proofs.lemmas.List.{append-nil}
 use Rattle.std.proofs.lemmas.List.Sorted.{IsPermutation-refl}
 use Rattle.plist_value.specs.Plist.{text, Plist, scalar, Items, no_items, item, Pairs, no_pairs, pair, table}
 use Rattle.plist_object.specs.Objects.{Held}
-use Rattle.plist_draft.specs.Told.{Keeps, SpellsIn, SpellItemsIn, SpellPairsIn}
+use Rattle.plist_draft.specs.Encoded.{Keeps, SpellsIn, SpellItemsIn, SpellPairsIn}
 
 pub Keeps-itself : (helds : List Held) → Keeps helds helds
 Keeps-itself helds = record { value = λ i v h. h; items = λ refs vs h. h; pairs = λ rows ps h. h }
@@ -24,17 +24,17 @@ pub record ItemsLeft (helds : List Held) (done : List ℕ) (left all : Items) : 
 
 pub items-next : (helds after : List Held) (done pushed : List ℕ) (n : ℕ) (v : Plist) (left rest all : Items) → Keeps helds after → SpellsIn after n v → left ≡ item v rest → pushed ≡ done ++ (n ∷ []) → ItemsLeft helds done left all → ItemsLeft after pushed rest all
 items-next helds after done pushed n v left rest all keeps spells first added begun = record {
-  ends = λ later refs keeps_later told.
+  ends = λ later refs keeps_later encoded.
       let moved : pushed ++ refs ≡ done ++ (n ∷ refs) = ap (λ (xs : List ℕ). xs ++ refs) added ∙ append_assoc done (n ∷ []) refs in
-      let item_told : SpellItemsIn later (n ∷ refs) (item v rest) = (keeps_later.value n v spells, told) in
-      let left_told = subst (λ (vs : Items). SpellItemsIn later (n ∷ refs) vs) (sym first) item_told in
-      subst (λ (xs : List ℕ). SpellItemsIn later xs all) (sym moved) (begun.ends later (n ∷ refs) (Keeps-both helds after later keeps keeps_later) left_told);
+      let item_encoded : SpellItemsIn later (n ∷ refs) (item v rest) = (keeps_later.value n v spells, encoded) in
+      let left_encoded = subst (λ (vs : Items). SpellItemsIn later (n ∷ refs) vs) (sym first) item_encoded in
+      subst (λ (xs : List ℕ). SpellItemsIn later xs all) (sym moved) (begun.ends later (n ∷ refs) (Keeps-both helds after later keeps keeps_later) left_encoded);
 }
 
 pub items-end : (helds : List Held) (done : List ℕ) (left all : Items) → left ≡ no_items → ItemsLeft helds done left all → SpellItemsIn helds done all
 items-end helds done left all none begun =
-    let told : SpellItemsIn helds [] left = rw none refl in
-    subst (λ (refs : List ℕ). SpellItemsIn helds refs all) (append-nil done) (begun.ends helds [] (Keeps-itself helds) told)
+    let encoded : SpellItemsIn helds [] left = rw none refl in
+    subst (λ (refs : List ℕ). SpellItemsIn helds refs all) (append-nil done) (begun.ends helds [] (Keeps-itself helds) encoded)
 
 zip-last : (xs ys : List ℕ) (x y : ℕ) → length xs ≡ length ys → zip (xs ++ (x ∷ [])) (ys ++ (y ∷ [])) ≡ zip xs ys ++ ((x, y) ∷ [])
 zip-last [] [] x y same = refl
@@ -52,20 +52,20 @@ pairs-next helds between after keys values keys_pushed values_pushed k n key v l
     let zipped : zip keys_pushed values_pushed ≡ zip keys values ++ ((k, n) ∷ []) = rw (key_added, value_added) (zip-last keys values k n before) in
     record {
       same = rw (key_added, value_added) (simp length-append (omega arith));
-      ends = λ later rows keeps_later told.
+      ends = λ later rows keeps_later encoded.
           let moved : zip keys_pushed values_pushed ++ rows ≡ zip keys values ++ ((k, n) ∷ rows) = ap (λ (xs : List (ℕ × ℕ)). xs ++ rows) zipped ∙ append_assoc (zip keys values) ((k, n) ∷ []) rows in
           let to_later = Keeps-both between after later keeps keeps_later in
-          let pair_told : SpellPairsIn later ((k, n) ∷ rows) (pair key v rest) = (to_later.value k (scalar (text key)) spells_key, keeps_later.value n v spells, told) in
-          let left_told = subst (λ (ps : Pairs). SpellPairsIn later ((k, n) ∷ rows) ps) (sym first) pair_told in
-          subst (λ (xs : List (ℕ × ℕ)). SpellPairsIn later xs all) (sym moved) (begun.ends later ((k, n) ∷ rows) (Keeps-both helds between later keeps_first to_later) left_told);
+          let pair_encoded : SpellPairsIn later ((k, n) ∷ rows) (pair key v rest) = (to_later.value k (scalar (text key)) spells_key, keeps_later.value n v spells, encoded) in
+          let left_encoded = subst (λ (ps : Pairs). SpellPairsIn later ((k, n) ∷ rows) ps) (sym first) pair_encoded in
+          subst (λ (xs : List (ℕ × ℕ)). SpellPairsIn later xs all) (sym moved) (begun.ends later ((k, n) ∷ rows) (Keeps-both helds between later keeps_first to_later) left_encoded);
     }
 
 pub pairs-end : (helds : List Held) (keys values : List ℕ) (left all : Pairs) → left ≡ no_pairs → PairsLeft helds keys values left all → SpellPairsIn helds (zip keys values) all
 pairs-end helds keys values left all none begun =
-    let told : SpellPairsIn helds [] left = rw none refl in
-    subst (λ (rows : List (ℕ × ℕ)). SpellPairsIn helds rows all) (append-nil (zip keys values)) (begun.ends helds [] (Keeps-itself helds) told)
+    let encoded : SpellPairsIn helds [] left = rw none refl in
+    subst (λ (rows : List (ℕ × ℕ)). SpellPairsIn helds rows all) (append-nil (zip keys values)) (begun.ends helds [] (Keeps-itself helds) encoded)
 
 -- a dictionary of entries in order
 pub table-put : {E : Type 0} (helds after : List Held) (keys values : List ℕ) (ps : Pairs) (put : Result ℕ E) → SpellPairsIn helds (zip keys values) ps → IfOk put (λ number. (rows : List (ℕ × ℕ)) (qs : Pairs) → IsPermutation (zip keys values) rows → SpellPairsIn helds rows qs → SpellsIn after number (table qs)) → IfOk put (λ number. SpellsIn after number (table ps))
-table-put helds after keys values ps (Ok number) told spells = spells (zip keys values) ps (IsPermutation-refl (zip keys values)) told
-table-put helds after keys values ps (Err error) told spells = tt
+table-put helds after keys values ps (Ok number) encoded spells = spells (zip keys values) ps (IsPermutation-refl (zip keys values)) encoded
+table-put helds after keys values ps (Err error) encoded spells = tt

@@ -1,7 +1,7 @@
 -- A law of all drafts.
 use Rattle.std.specs.Prelude.{List, ◌++◌}
 use Rattle.plist_object.specs.Objects.{Held}
-use Rattle.plist_draft.specs.Told.{Keeps}
+use Rattle.plist_draft.specs.Encoded.{Keeps}
 
 -- a value that is encoded stays encoded when objects are appended
 abbrev pub AppendingKeeps : Type 0

@@ -6,6 +6,6 @@ pub use Rattle.plist_object.specs.Spelled
 pub use Rattle.plist_object.specs.Files
 pub mod Stored
 pub mod OneProof
-pub mod Told
+pub mod Encoded
 pub mod View
 pub mod Laws

@@ -14,7 +14,7 @@ ghost use Rattle.plist_object.specs.Spelling.{scalar_spelling};
 ghost use Rattle.plist_object.specs.Spelled.{IsBinary};
 ghost use Rattle.plist_draft.specs.Stored.{AreKept, IsDraft, draft_file};
 ghost use Rattle.plist_draft.specs.OneProof.{IsDraft-prop};
-ghost use Rattle.plist_draft.specs.Told.{SpellsIn, SpellItemsIn, SpellPairsIn, Keeps, Shows};
+ghost use Rattle.plist_draft.specs.Encoded.{SpellsIn, SpellItemsIn, SpellPairsIn, Keeps, Shows};
 
 use crate::ends::{are_octets, put_places};
 use crate::recent::{Recent, hash_of};

@@ -3,7 +3,7 @@ ghost use Rattle.std.specs.Prelude.{◌≡◌, IfOk, OnOk, length};
 ghost use Rattle.std.specs.List.{zip};
 ghost use Rattle.plist_value.specs.Plist.{AreItems, ArePairs, IsPlist, list, table};
 ghost use Rattle.plist_value.specs.View.{view, view_items, view_pairs};
-ghost use Rattle.plist_draft.specs.Told.{Keeps, SpellsIn, SpellItemsIn, SpellPairsIn};
+ghost use Rattle.plist_draft.specs.Encoded.{Keeps, SpellsIn, SpellItemsIn, SpellPairsIn};
 ghost use Rattle.plist_draft.specs.View.{objects};
 
 use crate::Draft;

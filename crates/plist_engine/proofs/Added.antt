@@ -12,7 +12,7 @@ use Rattle.plist_object.specs.Views.{held_of, numbers_of}
 use Rattle.plist_object.specs.declared.object.Object.{Object}
 use Rattle.plist_object.specs.declared.object.Object.TheVariants as shown
 use Rattle.plist_engine.specs.Bits.{HasBit, bit_of}
-use Rattle.plist_engine.specs.RepeatFilter.{no_bit, AreMetAgain, AreAdded, HasAdded, HoldsIt}
+use Rattle.plist_engine.specs.RepeatFilter.{no_bit, AreSeenAgain, AreAdded, HasAdded, HoldsIt}
 use Rattle.plist_engine.specs.declared.bits.Bits.{Bits}
 use Rattle.plist_engine.specs.declared.repeat_filter.RepeatFilterBuilder.{RepeatFilterBuilder}
 
@@ -78,8 +78,8 @@ module _ (f : List ℕ) (i bit : ℕ) (old new : RepeatFilterBuilder) (was : Are
     }
 
 -- what the bits show about the added objects
-pub added-filter : (f : List ℕ) (i : ℕ) (builder : RepeatFilterBuilder) (again : Bits) → AreAdded f i builder → AreMetAgain (length builder.bits.items) builder.bits.items again → HasAdded f i (record { bits = builder.bits; again = again })
-added-filter f i builder again notes_are met = record {
+pub added-filter : (f : List ℕ) (i : ℕ) (builder : RepeatFilterBuilder) (again : Bits) → AreAdded f i builder → AreSeenAgain (length builder.bits.items) builder.bits.items again → HasAdded f i (record { bits = builder.bits; again = again })
+added-filter f i builder again notes_are seen = record {
   added = notes_are.added;
   again = λ j k s apart below first second. (
       let bits = builder.bits.items in
@@ -87,7 +87,7 @@ added-filter f i builder again notes_are met = record {
       let some : bit ≢ no_bit = (λ none. absurd (omega (arith, none))) in
       let at_j : get_or bits j 0 ≡ bit = notes_are.kept j s (omega (arith, apart, below)) first in
       let at_k : get_or bits k 0 ≡ bit = notes_are.kept k s below second in
-      let has : HasBit again (get_or bits k 0) = met j k apart (omega (arith, below, notes_are.added)) (at_j ∙ sym at_k) in (
+      let has : HasBit again (get_or bits k 0) = seen j k apart (omega (arith, below, notes_are.added)) (at_j ∙ sym at_k) in (
         ((λ none. some (sym at_j ∙ none)), subst (HasBit again) (at_k ∙ sym at_j) has),
         ((λ none. some (sym at_k ∙ none)), has),
       )

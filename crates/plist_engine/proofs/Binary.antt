@@ -15,7 +15,7 @@ use Rattle.plist_engine.specs.Tree.{preorder}
 use Rattle.plist_engine.specs.Sharing.{first_place, kept_places, count_below, value_at, number_among}
 use Rattle.plist_engine.specs.Canonical.{object_octets, objects_of, file_of, canon}
 use Rattle.plist_engine.proofs.Numbering.{number-entry, number-top}
-use Rattle.plist_engine.proofs.Trees.{length-preorder, preorder-head, Stands-all}
+use Rattle.plist_engine.proofs.Trees.{length-preorder, preorder-head, OccursAt-all}
 use Rattle.plist_engine.proofs.Sound.{IsSound, EachSound, EachSound-tree, EachSound-at, sound_from_Fits}
 use Rattle.plist_engine.proofs.Sizes.{least_width-small, length-kept, length-objects, total, total-tree}
 use Rattle.plist_engine.proofs.Widths.{least_width-holds}
@@ -119,7 +119,7 @@ module _ (v : Plist) (sound : IsSound v) where
   canon-spells =
       let all = preorder v in
       let each = EachSound-tree v sound in
-      let at_top = Spells-tree (canon v) all (number all (tree-some v) few each) (place-holds all (tree-some v) few each light) v 0 (Stands-all all) in
+      let at_top = Spells-tree (canon v) all (number all (tree-some v) few each) (place-holds all (tree-some v) few each light) v 0 (OccursAt-all all) in
       let top = ap (λ (x : Trailer). x.top) (trailer all (tree-some v) few each light) in
       subst (λ (i : ℕ). Spells (canon v) i v) (number-top all ∙ sym top) at_top
 

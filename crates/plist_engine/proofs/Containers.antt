@@ -6,13 +6,13 @@ use Rattle.plist_value.specs.Plist.{Scalar, Plist, scalar, list, table, Items, P
 use Rattle.plist_object.specs.Objects.{holds_list, holds_table}
 use Rattle.plist_object.specs.Places.{Holds, what_holds}
 use Rattle.plist_engine.specs.Tree.{key_texts, preorder, preorder_items, preorder_values, key_places, value_places}
-use Rattle.plist_engine.specs.Found.{Stands, held_at, number_in, found_in}
+use Rattle.plist_engine.specs.Found.{OccursAt, held_at, number_in, found_in}
 use Rattle.plist_engine.specs.Sharing.{least_place, first_place, kept_places, count_below, value_at}
-use Rattle.plist_engine.proofs.Trees.{Stands-tail, Stands-head, length-key_places, length-value_places}
+use Rattle.plist_engine.proofs.Trees.{OccursAt-tail, OccursAt-head, length-key_places, length-value_places}
 use Rattle.plist_engine.proofs.Counting.{count-kept, least_place-at, known-still}
 use Rattle.plist_engine.specs.declared.plan.Plan.{Plan}
 use Rattle.plist_object.specs.References.{references_of}
-use Rattle.plist_engine.proofs.Meeting.{met-beside, list-apart, table-apart}
+use Rattle.plist_engine.proofs.Meeting.{seen-beside, list-apart, table-apart}
 use Rattle.plist_engine.specs.Plan.{is_held, IsLike, IsReady, Grows, Adds, WalksTree, WalksItems, Begins}
 use Rattle.plist_engine.proofs.Flat.{flat, preorder-flat, places-flat}
 
@@ -26,12 +26,12 @@ container-first : (all : List Plist) (k : ℕ) (v : Plist) → IsContainer v →
 container-first all k (scalar s) h = absurd h
 container-first all k _ h = refl
 
-module _ (v : Plist) (container : IsContainer v) (part : List Plist) (tree : preorder v ≡ v ∷ part) (all : List Plist) (k : ℕ) (stands : Stands all k (preorder v)) where
-  stands_open : Stands all k (v ∷ part)
+module _ (v : Plist) (container : IsContainer v) (part : List Plist) (tree : preorder v ≡ v ∷ part) (all : List Plist) (k : ℕ) (stands : OccursAt all k (preorder v)) where
+  stands_open : OccursAt all k (v ∷ part)
   stands_open = rw tree at stands
 
   here : (value_at all k ≡ v) × (k < length all)
-  here = Stands-head v part stands_open
+  here = OccursAt-head v part stands_open
 
   own : first_place all k v ≡ k
   own = container-first all k v container
@@ -51,7 +51,7 @@ module _ (v : Plist) (container : IsContainer v) (part : List Plist) (tree : pre
 
   below_ready : {S H : Type 0} → (f : List ℕ) (i : ℕ) (objects : List ℕ) (old mid : Plan S H) (number : ℕ) → ((s : Scalar) → is_held s (what_holds f i) ≡ false) → Begins i objects old mid number → IsReady f all k old → IsReady f all (suc k) mid
   below_ready f i objects old mid number apart begins ready = record {
-    known = λ q. met-beside f i old mid begins.original_added q (apart q) ∙ ready.known q ∙ sym (known-still all k q (no_scalar q));
+    known = λ q. seen-beside f i old mid begins.original_added q (apart q) ∙ ready.known q ∙ sym (known-still all k q (no_scalar q));
     counted = ap length begins.original_added ∙ length-append old.originals.items _ ∙ add-one _ ∙ ap suc ready.counted ∙ sym (count-kept all k v here.0 here.1 own);
   }
 
@@ -70,14 +70,14 @@ module _ (v : Plist) (container : IsContainer v) (part : List Plist) (tree : pre
         stand_for = (like, (g.references, (ap (λ rs. rs ++ behind) (sym refers) ∙ ap (λ rs. references_of (held_at (number_in all) k v) ++ rs) same, g.stand_for)));
       })
 
-pub Walks-container : {S H : Type 0} → (f : List ℕ) (v : Plist) → IsContainer v → (part : List Plist) → preorder v ≡ v ∷ part → (i : ℕ) (objects numbers behind : List ℕ) (old mid done : Plan S H) (number : ℕ) → ((s : Scalar) → is_held s (what_holds f i) ≡ false) → Begins i objects old mid number → Filled objects numbers behind old done → ((all : List Plist) (k : ℕ) → Stands all k part → IsReady f all k mid → Adds f (length mid.references.items) all k part mid done) → ((all : List Plist) (k : ℕ) → Stands all (suc k) part → IsReady f all (suc k) mid → IsLike f i (held_at (number_in all) k v) × (references_of (held_at (number_in all) k v) ≡ numbers)) → WalksTree f 0 v old done number
+pub Walks-container : {S H : Type 0} → (f : List ℕ) (v : Plist) → IsContainer v → (part : List Plist) → preorder v ≡ v ∷ part → (i : ℕ) (objects numbers behind : List ℕ) (old mid done : Plan S H) (number : ℕ) → ((s : Scalar) → is_held s (what_holds f i) ≡ false) → Begins i objects old mid number → Filled objects numbers behind old done → ((all : List Plist) (k : ℕ) → OccursAt all k part → IsReady f all k mid → Adds f (length mid.references.items) all k part mid done) → ((all : List Plist) (k : ℕ) → OccursAt all (suc k) part → IsReady f all (suc k) mid → IsLike f i (held_at (number_in all) k v) × (references_of (held_at (number_in all) k v) ≡ numbers)) → WalksTree f 0 v old done number
 Walks-container f v container part tree i objects numbers behind old mid done number apart begins filled adds holds = record {
   numbered = λ all k stands ready.
       let e : number ≡ number_in all k = begins.number_is ∙ ready.counted ∙ sym (number_is v container part tree all k stands) in
       ap (λ n. n ∷ []) e;
   adds = λ all k stands ready.
       let below = below_ready v container part tree all k stands f i objects old mid number apart begins ready in
-      let children = Stands-tail v part (rw tree at stands) in
+      let children = OccursAt-tail v part (rw tree at stands) in
       let inner = adds all (suc k) children below in
       let like = holds all k children below in
       let moved : suc k + length part ≡ k + length (v ∷ part) = omega arith in

@@ -8,7 +8,7 @@ use Rattle.plist_value.specs.EqualityLaws.{scalar_eq-Decides}
 use Rattle.plist_object.specs.Objects.{holds_scalar, holds_list, holds_table}
 use Rattle.plist_object.specs.Places.{Holds, what_holds}
 use Rattle.plist_engine.specs.declared.plan.Plan.{Plan}
-use Rattle.plist_engine.specs.Plan.{is_held, number_from, number_met}
+use Rattle.plist_engine.specs.Plan.{is_held, number_from, number_seen}
 use Rattle.plist_engine.proofs.Storing.{or_none}
 
 pub cases_Option : (o : Option ℕ) → (o ≡ None) ⊎ ((n : ℕ) × (o ≡ Some n))
@@ -26,32 +26,32 @@ number_from-more f n (x ∷ originals) i s =
     ]
 
 module _ {S H : Type 0} (f : List ℕ) (i : ℕ) (old new : Plan S H) (added : new.originals.items ≡ old.originals.items ++ (i ∷ [])) where
-  met-more : (s : Scalar) → number_met f new s ≡ option_or (number_met f old s) (cond (is_held s (what_holds f i)) (Some (length old.originals.items)) None)
-  met-more s =
+  seen-more : (s : Scalar) → number_seen f new s ≡ option_or (number_seen f old s) (cond (is_held s (what_holds f i)) (Some (length old.originals.items)) None)
+  seen-more s =
       let n = length old.originals.items in
       let from : 0 + n ≡ n = omega arith in
-      ap (λ originals. number_from f 0 originals s) added ∙ number_from-more f 0 old.originals.items i s ∙ ap (λ m. option_or (number_met f old s) (cond (is_held s (what_holds f i)) (Some m) None)) from
+      ap (λ originals. number_from f 0 originals s) added ∙ number_from-more f 0 old.originals.items i s ∙ ap (λ m. option_or (number_seen f old s) (cond (is_held s (what_holds f i)) (Some m) None)) from
 
   -- an object that does not contain the scalar
-  pub met-beside : (s : Scalar) → is_held s (what_holds f i) ≡ false → number_met f new s ≡ number_met f old s
-  met-beside s apart = met-more s ∙ rw apart (or_none (number_met f old s))
+  pub seen-beside : (s : Scalar) → is_held s (what_holds f i) ≡ false → number_seen f new s ≡ number_seen f old s
+  seen-beside s apart = seen-more s ∙ rw apart (or_none (number_seen f old s))
 
-  pub met-still : (s : Scalar) (n : ℕ) → number_met f old s ≡ Some n → number_met f new s ≡ Some n
-  met-still s n had = met-more s ∙ rw had refl
+  pub seen-still : (s : Scalar) (n : ℕ) → number_seen f old s ≡ Some n → number_seen f new s ≡ Some n
+  seen-still s n had = seen-more s ∙ rw had refl
 
   -- an object with a scalar that had no number
-  module _ (s : Scalar) (holds : Holds f i (holds_scalar s)) (unknown : number_met f old s ≡ None) where
+  module _ (s : Scalar) (holds : Holds f i (holds_scalar s)) (unknown : number_seen f old s ≡ None) where
     held_is : (q : Scalar) → is_held q (what_holds f i) ≡ scalar_eq s q
     held_is q = ap (is_held q) holds.reads
 
-    pub met-added : (q : Scalar) → number_met f new q ≡ cond (scalar_eq s q) (Some (length old.originals.items)) (number_met f old q)
-    met-added q = elim (cases_Bool (scalar_eq s q)) [
-      | inl same ↦ (let is : s ≡ q = (scalar_eq-Decides s q).0 same in let none : number_met f old q ≡ None = ap (number_met f old) (sym is) ∙ unknown in met-more q ∙ rw (held_is q, none, same) refl)
-      | inr apart ↦ met-beside q (held_is q ∙ apart) ∙ rw apart refl
+    pub seen-added : (q : Scalar) → number_seen f new q ≡ cond (scalar_eq s q) (Some (length old.originals.items)) (number_seen f old q)
+    seen-added q = elim (cases_Bool (scalar_eq s q)) [
+      | inl same ↦ (let is : s ≡ q = (scalar_eq-Decides s q).0 same in let none : number_seen f old q ≡ None = ap (number_seen f old) (sym is) ∙ unknown in seen-more q ∙ rw (held_is q, none, same) refl)
+      | inr apart ↦ seen-beside q (held_is q ∙ apart) ∙ rw apart refl
     ]
 
-    pub met-now : number_met f new s ≡ Some (length old.originals.items)
-    met-now = met-added s ∙ rw ((scalar_eq-Decides s s).1 refl) refl
+    pub seen-now : number_seen f new s ≡ Some (length old.originals.items)
+    seen-now = seen-added s ∙ rw ((scalar_eq-Decides s s).1 refl) refl
 
 -- a container contains no scalar
 pub list-apart : (f : List ℕ) (i : ℕ) (refs : List ℕ) → Holds f i (holds_list refs) → (s : Scalar) → is_held s (what_holds f i) ≡ false

@@ -8,35 +8,35 @@ use Rattle.plist_object.specs.Spelled.{Spells, SpellItems, SpellPairs}
 use Rattle.plist_engine.specs.Tree.{key_texts, preorder, preorder_items, preorder_values, item_places, key_places, value_places}
 use Rattle.plist_engine.specs.Sharing.{value_at}
 pub use Rattle.plist_engine.specs.Found.{held_at}
-use Rattle.plist_engine.proofs.Trees.{length-preorder, Stands, Stands-front, Stands-rest, Stands-tail, Stands-head, Stands-tree}
+use Rattle.plist_engine.proofs.Trees.{length-preorder, OccursAt, OccursAt-front, OccursAt-rest, OccursAt-tail, OccursAt-head, OccursAt-tree}
 
 module _ (f : List ℕ) (all : List Plist) (number : ℕ → ℕ)
     (reads : (k : ℕ) (v : Plist) → value_at all k ≡ v → k < length all → Holds f (number k) (held_at number k v)) where
   mutual
-    pub Spells-tree : (v : Plist) (k : ℕ) → Stands all k (preorder v) → Spells f (number k) v
-    Spells-tree (scalar s) k h = let at = Stands-tree (scalar s) h in reads k (scalar s) at.0 at.1
+    pub Spells-tree : (v : Plist) (k : ℕ) → OccursAt all k (preorder v) → Spells f (number k) v
+    Spells-tree (scalar s) k h = let at = OccursAt-tree (scalar s) h in reads k (scalar s) at.0 at.1
     Spells-tree (list vs) k h =
-        let at = Stands-tree (list vs) h in
-        let items = SpellItems-tree vs (suc k) (Stands-tail (list vs) (preorder_items vs) h) in
+        let at = OccursAt-tree (list vs) h in
+        let items = SpellItems-tree vs (suc k) (OccursAt-tail (list vs) (preorder_items vs) h) in
         (map number (item_places (suc k) vs), (reads k (list vs) at.0 at.1, items))
     Spells-tree (table ps) k h =
-        let at = Stands-tree (table ps) h in
+        let at = OccursAt-tree (table ps) h in
         let keys = map number (key_places (suc k) ps) in
         let values = map number (value_places (suc k + length (key_texts ps)) ps) in
-        let below = Stands-tail (table ps) (key_texts ps ++ preorder_values ps) h in
-        let pairs = SpellPairs-tree ps (suc k) (suc k + length (key_texts ps)) (Stands-front (key_texts ps) (preorder_values ps) below) (Stands-rest (key_texts ps) (preorder_values ps) (length (key_texts ps)) refl below) in
+        let below = OccursAt-tail (table ps) (key_texts ps ++ preorder_values ps) h in
+        let pairs = SpellPairs-tree ps (suc k) (suc k + length (key_texts ps)) (OccursAt-front (key_texts ps) (preorder_values ps) below) (OccursAt-rest (key_texts ps) (preorder_values ps) (length (key_texts ps)) refl below) in
         (keys, (values, (zip keys values, (reads k (table ps) at.0 at.1, (IsPermutation-refl (zip keys values), pairs)))))
 
-    SpellItems-tree : (vs : Items) (k : ℕ) → Stands all k (preorder_items vs) → SpellItems f (map number (item_places k vs)) vs
+    SpellItems-tree : (vs : Items) (k : ℕ) → OccursAt all k (preorder_items vs) → SpellItems f (map number (item_places k vs)) vs
     SpellItems-tree no_items k h = refl
     SpellItems-tree (item v vs) k h =
-        let first = Spells-tree v k (Stands-front (preorder v) (preorder_items vs) h) in
-        (first, SpellItems-tree vs (k + _) (Stands-rest (preorder v) (preorder_items vs) _ (length-preorder v) h))
+        let first = Spells-tree v k (OccursAt-front (preorder v) (preorder_items vs) h) in
+        (first, SpellItems-tree vs (k + _) (OccursAt-rest (preorder v) (preorder_items vs) _ (length-preorder v) h))
 
-    SpellPairs-tree : (ps : Pairs) (j k : ℕ) → Stands all j (key_texts ps) → Stands all k (preorder_values ps) → SpellPairs f (zip (map number (key_places j ps)) (map number (value_places k ps))) ps
+    SpellPairs-tree : (ps : Pairs) (j k : ℕ) → OccursAt all j (key_texts ps) → OccursAt all k (preorder_values ps) → SpellPairs f (zip (map number (key_places j ps)) (map number (value_places k ps))) ps
     SpellPairs-tree no_pairs j k keys values = refl
     SpellPairs-tree (pair key v ps) j k keys values =
-        let at = Stands-head (scalar (text key)) (key_texts ps) keys in
-        let first = Spells-tree v k (Stands-front (preorder v) (preorder_values ps) values) in
-        let later = Stands-rest (preorder v) (preorder_values ps) _ (length-preorder v) values in
-        (reads j (scalar (text key)) at.0 at.1, first, SpellPairs-tree ps (suc j) (k + _) (Stands-tail (scalar (text key)) (key_texts ps) keys) later)
+        let at = OccursAt-head (scalar (text key)) (key_texts ps) keys in
+        let first = Spells-tree v k (OccursAt-front (preorder v) (preorder_values ps) values) in
+        let later = OccursAt-rest (preorder v) (preorder_values ps) _ (length-preorder v) values in
+        (reads j (scalar (text key)) at.0 at.1, first, SpellPairs-tree ps (suc j) (k + _) (OccursAt-tail (scalar (text key)) (key_texts ps) keys) later)

@@ -5,7 +5,7 @@ use Rattle.plist_value.specs.Plist.{Plist, scalar, list, table, Items, no_items,
 use Rattle.plist_value.specs.Limits.{nodes, nodes_of_items, nodes_of_pairs}
 use Rattle.plist_engine.specs.Tree.{key_texts, preorder, preorder_items, preorder_values, key_places, value_places}
 use Rattle.plist_engine.specs.Sharing.{value_at}
-pub use Rattle.plist_engine.specs.Found.{Stands}
+pub use Rattle.plist_engine.specs.Found.{OccursAt}
 
 -- a tree has a place for each node
 mutual
@@ -33,12 +33,12 @@ length-value_places k no_pairs = refl
 length-value_places k (pair key v ps) = let others = length-value_places (k + nodes v) ps in omega arith
 
 -- a prefix of a list is at the same place, and the rest after it
-pub Stands-front : {X : Type 0} {all : List X} {k : ℕ} (xs ys : List X) → Stands all k (xs ++ ys) → Stands all k xs
-Stands-front xs ys h =
+pub OccursAt-front : {X : Type 0} {all : List X} {k : ℕ} (xs ys : List X) → OccursAt all k (xs ++ ys) → OccursAt all k xs
+OccursAt-front xs ys h =
     record { before = h.before; after = ys ++ h.after; whole = h.whole ∙ ap (λ zs. h.before ++ zs) (append_assoc xs ys h.after); place = h.place }
 
-pub Stands-rest : {X : Type 0} {all : List X} {k : ℕ} (xs ys : List X) (n : ℕ) → length xs ≡ n → Stands all k (xs ++ ys) → Stands all (k + n) ys
-Stands-rest xs ys n long h =
+pub OccursAt-rest : {X : Type 0} {all : List X} {k : ℕ} (xs ys : List X) (n : ℕ) → length xs ≡ n → OccursAt all k (xs ++ ys) → OccursAt all (k + n) ys
+OccursAt-rest xs ys n long h =
     record {
       before = h.before ++ xs;
       after = h.after;
@@ -46,21 +46,21 @@ Stands-rest xs ys n long h =
       place = rw length-append (omega arith);
     }
 
-pub Stands-tail : {X : Type 0} {all : List X} {k : ℕ} (x : X) (xs : List X) → Stands all k (x ∷ xs) → Stands all (suc k) xs
-Stands-tail {X} {all} {k} x xs h =
-    subst (λ (n : ℕ). Stands all n xs) (add-one k) (Stands-rest (x ∷ []) xs 1 refl h)
+pub OccursAt-tail : {X : Type 0} {all : List X} {k : ℕ} (x : X) (xs : List X) → OccursAt all k (x ∷ xs) → OccursAt all (suc k) xs
+OccursAt-tail {X} {all} {k} x xs h =
+    subst (λ (n : ℕ). OccursAt all n xs) (add-one k) (OccursAt-rest (x ∷ []) xs 1 refl h)
 
-pub Stands-all : {X : Type 0} (xs : List X) → Stands xs 0 xs
-Stands-all xs = record { before = []; after = []; whole = sym (append-nil xs); place = refl }
+pub OccursAt-all : {X : Type 0} (xs : List X) → OccursAt xs 0 xs
+OccursAt-all xs = record { before = []; after = []; whole = sym (append-nil xs); place = refl }
 
 -- the value at the place of a list is its first element
-pub Stands-head : {all : List Plist} {k : ℕ} (v : Plist) (vs : List Plist) → Stands all k (v ∷ vs) → (value_at all k ≡ v) × (k < length all)
-Stands-head v vs h = rw (h.whole, length-append) (get_or_at h.before v (vs ++ h.after) (list no_items) _ h.place, omega arith)
+pub OccursAt-head : {all : List Plist} {k : ℕ} (v : Plist) (vs : List Plist) → OccursAt all k (v ∷ vs) → (value_at all k ≡ v) × (k < length all)
+OccursAt-head v vs h = rw (h.whole, length-append) (get_or_at h.before v (vs ++ h.after) (list no_items) _ h.place, omega arith)
 
 pub preorder-head : (v : Plist) → (rest : List Plist) × (preorder v ≡ v ∷ rest)
 preorder-head (scalar s) = ([], refl)
 preorder-head (list vs) = (preorder_items vs, refl)
 preorder-head (table ps) = (key_texts ps ++ preorder_values ps, refl)
 
-pub Stands-tree : {all : List Plist} {k : ℕ} (v : Plist) → Stands all k (preorder v) → (value_at all k ≡ v) × (k < length all)
-Stands-tree v h = let head = preorder-head v in Stands-head v head.0 (rw head.1 at h)
+pub OccursAt-tree : {all : List Plist} {k : ℕ} (v : Plist) → OccursAt all k (preorder v) → (value_at all k ≡ v) × (k < length all)
+OccursAt-tree v h = let head = preorder-head v in OccursAt-head v head.0 (rw head.1 at h)

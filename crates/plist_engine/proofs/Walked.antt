@@ -9,17 +9,17 @@ use Rattle.plist_object.proofs.Uniqueness.{same_items}
 use Rattle.plist_engine.specs.Tree.{preorder}
 use Rattle.plist_engine.specs.declared.plan.Plan.{Plan}
 use Rattle.plist_engine.specs.Spelling.{SpellTable, in_turn}
-use Rattle.plist_engine.specs.Plan.{WalksItems, Begins, IsUnmet, NumbersScalar, IsWalked, ItemsWalked, AreWalked}
+use Rattle.plist_engine.specs.Plan.{WalksItems, Begins, IsUnseen, NumbersScalar, IsWalked, ItemsWalked, AreWalked}
 use Rattle.plist_engine.proofs.Walking.{Walks-none, Walks-item, Walks-lift}
 use Rattle.plist_engine.proofs.Containers.{Filled, Walks-list, Walks-table}
 use Rattle.plist_engine.proofs.Flat.{flat, spell-flat, valid-flat, length-keys}
 
-pub walked-scalar : {S H : Type 0} → (f : List ℕ) (i : ℕ) (s : Scalar) (old new : Plan S H) (number : ℕ) → IsUnmet f i s old → IsScalar s → NumbersScalar f i s old new number → IsWalked f i old new number
-walked-scalar f i s old new number unmet valid numbers = record {
+pub walked-scalar : {S H : Type 0} → (f : List ℕ) (i : ℕ) (s : Scalar) (old new : Plan S H) (number : ℕ) → IsUnseen f i s old → IsScalar s → NumbersScalar f i s old new number → IsWalked f i old new number
+walked-scalar f i s old new number unseen valid numbers = record {
   value = scalar s;
   valid = valid;
-  spells = unmet.holds;
-  walks = numbers.walks unmet;
+  spells = unseen.holds;
+  walks = numbers.walks unseen;
   references = [];
   references_added = numbers.references_kept ∙ sym (append-nil _);
 }

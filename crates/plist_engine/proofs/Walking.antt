@@ -9,13 +9,13 @@ use Rattle.plist_object.specs.Objects.{holds_scalar}
 use Rattle.plist_object.specs.Places.{Holds}
 use Rattle.plist_engine.specs.Tree.{preorder, preorder_items, item_places}
 use Rattle.plist_engine.specs.Sharing.{least_place, first_place, kept_from, kept_places, count_below, value_at}
-use Rattle.plist_engine.specs.Found.{Stands, held_at, number_in, found_in, number_known}
+use Rattle.plist_engine.specs.Found.{OccursAt, held_at, number_in, found_in, number_known}
 use Rattle.plist_engine.specs.declared.plan.Plan.{Plan}
-use Rattle.plist_engine.specs.Plan.{number_from, number_met, IsReady, Grows, Adds, Walks, WalksTree, WalksScalar, WalksItems, IsEmptyPlan, StandFor}
+use Rattle.plist_engine.specs.Plan.{number_from, number_seen, IsReady, Grows, Adds, Walks, WalksTree, WalksScalar, WalksItems, IsEmptyPlan, StandFor}
 use Rattle.plist_engine.proofs.Numbering.{least_place-le, count_below-none}
-use Rattle.plist_engine.proofs.Trees.{length-preorder, Stands-front, Stands-rest, Stands-head, Stands-all}
+use Rattle.plist_engine.proofs.Trees.{length-preorder, OccursAt-front, OccursAt-rest, OccursAt-head, OccursAt-all}
 use Rattle.plist_engine.proofs.Counting.{count-kept, count-shared, least_place-at, known-still, known-now}
-use Rattle.plist_engine.proofs.Meeting.{met-added}
+use Rattle.plist_engine.proofs.Meeting.{seen-added}
 use Rattle.plist_engine.proofs.Growing.{Grows-none, Grows-append, Grows-lift, Grows-scalar}
 
 -- the kept places of one part, and then those of another
@@ -50,13 +50,13 @@ Adds-append f front all k old mid new xs ys x y =
 pub Walks-append : {S H : Type 0} → (f : List ℕ) (front : ℕ) (xs ys : List Plist) (p q r : ℕ → List ℕ) (old mid new : Plan S H) (ms ns : List ℕ) → ((k : ℕ) → r k ≡ p k ++ q (k + length xs)) → Walks f front xs p old mid ms → Walks f front ys q mid new ns → Walks f front (xs ++ ys) r old new (ms ++ ns)
 Walks-append f front xs ys p q r old mid new ms ns joined x y = record {
   numbered = λ all k stands ready.
-      let first = Stands-front xs ys stands in
-      let later = Stands-rest xs ys (length xs) refl stands in
+      let first = OccursAt-front xs ys stands in
+      let later = OccursAt-rest xs ys (length xs) refl stands in
       let done = x.adds all k first ready in
       rw (joined k, map-append) (let a = x.numbered all k first ready in let b = y.numbered all (k + length xs) later done.ready in cc);
   adds = λ all k stands ready.
-      let done = x.adds all k (Stands-front xs ys stands) ready in
-      Adds-append f front all k old mid new xs ys done (y.adds all (k + length xs) (Stands-rest xs ys (length xs) refl stands) done.ready);
+      let done = x.adds all k (OccursAt-front xs ys stands) ready in
+      Adds-append f front all k old mid new xs ys done (y.adds all (k + length xs) (OccursAt-rest xs ys (length xs) refl stands) done.ready);
 }
 
 -- a plan with other references before those considered
@@ -75,9 +75,9 @@ Walks-lift f front part places old mid new ns x within same_originals same_refer
 }
 
 -- a scalar at its place: it was visited before, or this is its first place
-module _ (s : Scalar) (all : List Plist) (k : ℕ) (stands : Stands all k (scalar s ∷ [])) where
+module _ (s : Scalar) (all : List Plist) (k : ℕ) (stands : OccursAt all k (scalar s ∷ [])) where
   here : (value_at all k ≡ scalar s) × (k < length all)
-  here = Stands-head (scalar s) [] stands
+  here = OccursAt-head (scalar s) [] stands
 
   before : least_place s all ≤ k
   before = least_place-le s all k here.0
@@ -106,15 +106,15 @@ module _ (s : Scalar) (all : List Plist) (k : ℕ) (stands : Stands all k (scala
         | inr above ↦ (let b = before in omega arith)
       ]
 
-pub Walks-known : {S H : Type 0} → (f : List ℕ) (s : Scalar) (old new : Plan S H) (n : ℕ) → number_met f old s ≡ Some n → new.originals ≡ old.originals → new.references ≡ old.references → WalksScalar f 0 s old new n
-Walks-known f s old new n met same_originals same_references = record {
+pub Walks-known : {S H : Type 0} → (f : List ℕ) (s : Scalar) (old new : Plan S H) (n : ℕ) → number_seen f old s ≡ Some n → new.originals ≡ old.originals → new.references ≡ old.references → WalksScalar f 0 s old new n
+Walks-known f s old new n seen same_originals same_references = record {
   numbered = λ all k stands ready.
-      let known = known-before s all k stands n (sym (ready.known s) ∙ met) in
+      let known = known-before s all k stands n (sym (ready.known s) ∙ seen) in
       let is = number_is s all k stands in
       let e : n ≡ number_in all k = known.1 ∙ sym is in
       ap (λ m. m ∷ []) e;
   adds = λ all k stands ready.
-      let known = known-before s all k stands n (sym (ready.known s) ∙ met) in
+      let known = known-before s all k stands n (sym (ready.known s) ∙ seen) in
       let at = here s all k stands in
       let below = known.0 in
       let apart : (q : Scalar) → least_place q all ≡ k → ⊥ =
@@ -137,7 +137,7 @@ Walks-known f s old new n met same_originals same_references = record {
 }
 
 -- a new scalar, which is added last
-pub Walks-new : {S H : Type 0} → (f : List ℕ) (s : Scalar) (i : ℕ) (old new : Plan S H) (n : ℕ) → Holds f i (holds_scalar s) → number_met f old s ≡ None → n ≡ length old.originals.items → new.originals.items ≡ old.originals.items ++ (i ∷ []) → new.references ≡ old.references → WalksScalar f 0 s old new n
+pub Walks-new : {S H : Type 0} → (f : List ℕ) (s : Scalar) (i : ℕ) (old new : Plan S H) (n : ℕ) → Holds f i (holds_scalar s) → number_seen f old s ≡ None → n ≡ length old.originals.items → new.originals.items ≡ old.originals.items ++ (i ∷ []) → new.references ≡ old.references → WalksScalar f 0 s old new n
 Walks-new f s i old new n holds unknown last added same_references =
     let long : length new.originals.items ≡ suc (length old.originals.items) = ap length added ∙ length-append old.originals.items (i ∷ []) ∙ add-one _ in
     record {
@@ -150,8 +150,8 @@ Walks-new f s i old new n holds unknown last added same_references =
           let first = unknown-first s all k stands (sym (ready.known s) ∙ unknown) in
           let at = here s all k stands in
           let number : length old.originals.items ≡ count_below k (kept_places all) = ready.counted in
-          let knows : (q : Scalar) → number_met f new q ≡ cond (scalar_eq s q) (Some (length old.originals.items)) (number_met f old q) = met-added f i old new added s holds unknown in
-          let now : (q : Scalar) → number_met f new q ≡ number_known all (suc k) q =
+          let knows : (q : Scalar) → number_seen f new q ≡ cond (scalar_eq s q) (Some (length old.originals.items)) (number_seen f old q) = seen-added f i old new added s holds unknown in
+          let now : (q : Scalar) → number_seen f new q ≡ number_known all (suc k) q =
           λ q. elim (cases_Bool (scalar_eq s q)) [
             | inl same ↦ (let e : s ≡ q = (scalar_eq-Decides s q).0 same in let firstq : least_place q all ≡ k = ap (λ x. least_place x all) (sym e) ∙ first in knows q ∙ rw same (ap Some number) ∙ sym (known-now all k q firstq))
             | inr other ↦ knows q ∙ rw other (ready.known q) ∙ sym (known-still all k q (λ e. let same = same_scalar s all k stands q e in let yes = (scalar_eq-Decides s q).1 (sym same) in true≢false (sym yes ∙ other)))
@@ -177,7 +177,7 @@ Walks-whole f v empty done n nothing walks =
       known = λ q. ap (λ originals. number_from f 0 originals q) nothing.none ∙ rw (le-ltb (least_place q all) 0 (omega arith)) refl;
       counted = ap length nothing.none ∙ sym (count_below-none all all 0 0 (omega arith));
     } in
-    let adds = walks.adds all 0 (Stands-all all) start in
+    let adds = walks.adds all 0 (OccursAt-all all) start in
     let grows = adds.grows in
     let originals : done.originals.items ≡ grows.originals = grows.originals_added ∙ ap (λ os. os ++ grows.originals) nothing.none in
     let references : done.references.items ≡ grows.references = grows.references_added ∙ ap (λ rs. rs ++ grows.references) nothing.no_references in

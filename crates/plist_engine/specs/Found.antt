@@ -5,8 +5,8 @@ use Rattle.plist_object.specs.Objects.{Held, holds_scalar, holds_list, holds_tab
 use Rattle.plist_engine.specs.Tree.{key_texts, item_places, key_places, value_places}
 use Rattle.plist_engine.specs.Sharing.{least_place, kept_from, kept_places, count_below, number_among}
 
--- The list `part` is in `all` from place k on.
-pub record Stands {X : Type 0} (all : List X) (k : ℕ) (part : List X) : Type 0 where
+-- The list `part` occurs in `all`, from place k on.
+pub record OccursAt {X : Type 0} (all : List X) (k : ℕ) (part : List X) : Type 0 where
   pub before : List X
   pub after : List X
   pub whole : all ≡ before ++ (part ++ after)

@@ -12,7 +12,7 @@ use Rattle.plist_object.specs.References.{references_of}
 use Rattle.plist_object.specs.Spelled.{Spells, SpellItems}
 use Rattle.plist_engine.specs.Tree.{preorder, preorder_items, item_places}
 use Rattle.plist_engine.specs.Sharing.{kept_places, count_below}
-use Rattle.plist_engine.specs.Found.{Stands, number_in, found_in, number_known}
+use Rattle.plist_engine.specs.Found.{OccursAt, number_in, found_in, number_known}
 use Rattle.plist_engine.specs.Memo.{single, kept, IsNumber, IsAlone, IsSingle}
 use Rattle.plist_engine.specs.Scalars.{number_stored, AreNumbered, EntersScalar}
 use Rattle.plist_engine.specs.declared.scalars.Scalars.{Scalars}
@@ -52,8 +52,8 @@ number_from f n (i ∷ originals) s =
     if is_held s (what_holds f i) then Some n else number_from f (suc n) originals s
 
 -- the number of the scalar among the objects so far, if it was visited
-abbrev pub number_met : {S H : Type 0} → List ℕ → Plan S H → Scalar → Option ℕ
-number_met f plan s = number_from f 0 plan.originals.items s
+abbrev pub number_seen : {S H : Type 0} → List ℕ → Plan S H → Scalar → Option ℕ
+number_seen f plan s = number_from f 0 plan.originals.items s
 
 -- nothing is planned
 pub record IsEmptyPlan {S H : Type 0} (plan : Plan S H) : Type 0 where
@@ -63,7 +63,7 @@ pub record IsEmptyPlan {S H : Type 0} (plan : Plan S H) : Type 0 where
 -- the places below k are done: each scalar there is known with its number, and the plan has one
 -- object for each of them that has its own
 pub record IsReady {S H : Type 0} (f : List ℕ) (all : List Plist) (k : ℕ) (plan : Plan S H) : Type 0 where
-  pub known : (s : Scalar) → number_met f plan s ≡ number_known all k s
+  pub known : (s : Scalar) → number_seen f plan s ≡ number_known all k s
   pub counted : length plan.originals.items ≡ count_below k (kept_places all)
 
 -- Objects with this content were added. Only the references from index `front` on are considered.
@@ -82,8 +82,8 @@ pub record Adds {S H : Type 0} (f : List ℕ) (front : ℕ) (all : List Plist) (
 -- The list `part` was done, wherever it is. If it is at place k, the numbers are those of the places
 -- `places k`.
 pub record Walks {S H : Type 0} (f : List ℕ) (front : ℕ) (part : List Plist) (places : ℕ → List ℕ) (old new : Plan S H) (numbers : List ℕ) : Type 0 where
-  pub numbered : (all : List Plist) (k : ℕ) → Stands all k part → IsReady f all k old → numbers ≡ map (number_in all) (places k)
-  pub adds : (all : List Plist) (k : ℕ) → Stands all k part → IsReady f all k old → Adds f front all k part old new
+  pub numbered : (all : List Plist) (k : ℕ) → OccursAt all k part → IsReady f all k old → numbers ≡ map (number_in all) (places k)
+  pub adds : (all : List Plist) (k : ℕ) → OccursAt all k part → IsReady f all k old → Adds f front all k part old new
 
 abbrev pub WalksOne : {S H : Type 0} → List ℕ → ℕ → List Plist → Plan S H → Plan S H → ℕ → Type 0
 WalksOne f front part old new number = Walks f front part (λ k. k ∷ []) old new (number ∷ [])
@@ -110,11 +110,11 @@ pub record Begins {S H : Type 0} (i : ℕ) (refs : List ℕ) (old new : Plan S H
 pub record IsRemembered {S H : Type 0} (f : List ℕ) (plan : Plan S H) (i number : ℕ) : Type 0 where
   pub shown : Scalar
   pub holds : Holds f i (holds_scalar shown)
-  pub met : number_met f plan shown ≡ Some number
+  pub seen : number_seen f plan shown ≡ Some number
 
 -- The scalar was visited in an object whose number is kept. The map contains it, or no other object
 -- does.
-pub record IsMet {S H : Type 0} (f : List ℕ) (plan : Plan S H) (s : Scalar) (number : ℕ) : Type 0 where
+pub record IsSeen {S H : Type 0} (f : List ℕ) (plan : Plan S H) (s : Scalar) (number : ℕ) : Type 0 where
   pub object : ℕ
   pub holds : Holds f object (holds_scalar s)
   pub is_kept : kept plan.memo object ≡ number
@@ -128,14 +128,14 @@ pub record KnowsScalars {S H : Type 0} (f : List ℕ) (plan : Plan S H) : Type 0
   pub numbered : AreNumbered plan.scalars
   pub each : (i : ℕ) → IsNumber (kept plan.memo i) → IsRemembered f plan i (kept plan.memo i)
   pub singles : (i : ℕ) → kept plan.memo i ≡ single → IsSingle f i
-  pub stored : (r : ScalarRef) (n : ℕ) → number_stored plan.scalars r ≡ Some n → number_met f plan (content_of r) ≡ Some n
-  pub met : (s : Scalar) (n : ℕ) → number_met f plan s ≡ Some n → IsMet f plan s n
+  pub stored : (r : ScalarRef) (n : ℕ) → number_stored plan.scalars r ≡ Some n → number_seen f plan (content_of r) ≡ Some n
+  pub seen : (s : Scalar) (n : ℕ) → number_seen f plan s ≡ Some n → IsSeen f plan s n
 
 -- the object contains the scalar, and was not visited
-pub record IsUnmet {S H : Type 0} (f : List ℕ) (i : ℕ) (s : Scalar) (plan : Plan S H) : Type 0 where
+pub record IsUnseen {S H : Type 0} (f : List ℕ) (i : ℕ) (s : Scalar) (plan : Plan S H) : Type 0 where
   pub knows : KnowsScalars f plan
   pub holds : Holds f i (holds_scalar s)
-  pub unmet : single ≤ kept plan.memo i
+  pub unseen : single ≤ kept plan.memo i
 
 -- The scalar of the object was entered in the map, or nothing was, since no other object contains
 -- it.
@@ -145,7 +145,7 @@ MeetsScalar memo i r next old new had =
 
 -- The scalar of the object got a number.
 pub record NumbersScalar {S H : Type 0} (f : List ℕ) (i : ℕ) (s : Scalar) (old new : Plan S H) (number : ℕ) : Type 0 where
-  pub walks : IsUnmet f i s old → WalksScalar f 0 s old new number
+  pub walks : IsUnseen f i s old → WalksScalar f 0 s old new number
   pub references_kept : new.references.items ≡ old.references.items
 
 -- the value that the object encodes was walked, and references were only appended

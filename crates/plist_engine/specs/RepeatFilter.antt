@@ -28,8 +28,8 @@ pub record AreAdded (f : List ℕ) (i : ℕ) (builder : RepeatFilterBuilder) : T
   pub are_scalars : AreScalars f i builder.bits.items
 
 -- each bit that occurs more than once among the first n is set
-abbrev pub AreMetAgain : ℕ → List ℕ → Bits → Type 0
-AreMetAgain n bits again = (j k : ℕ) → j < k → k < n → slice_index bits j ≡ slice_index bits k → HasBit again (slice_index bits k)
+abbrev pub AreSeenAgain : ℕ → List ℕ → Bits → Type 0
+AreSeenAgain n bits again = (j k : ℕ) → j < k → k < n → slice_index bits j ≡ slice_index bits k → HasBit again (slice_index bits k)
 
 -- object i contains a scalar, and another may contain it
 abbrev pub MayRepeat : RepeatFilter → ℕ → Type 0

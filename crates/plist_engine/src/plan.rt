@@ -7,7 +7,7 @@ ghost use Rattle.plist_object.specs.Views.{numbers_of, octets_of};
 ghost use Rattle.plist_engine.specs.Memo.{IsNumber, kept};
 ghost use Rattle.plist_object.specs.KeyOrder.{IsReady};
 ghost use Rattle.plist_engine.specs.Spelling.{IsTable, SpellTable, in_turn};
-ghost use Rattle.plist_engine.specs.Plan.{Begins, IsEmptyPlan, IsUnmet};
+ghost use Rattle.plist_engine.specs.Plan.{Begins, IsEmptyPlan, IsUnseen};
 ghost use Rattle.plist_engine.specs.Plan.{KnowsScalars, MeetsScalar, NumbersScalar};
 
 use crate::memo::{Memo, SINGLE};
@@ -71,7 +71,7 @@ impl<'a, S: BuildHasher + Copy> Plan<'a, S> {
         ensures numbers { IfOk result (NumbersScalar (octets_of file.now) object
             (content_of scalar.entry) self.old self.new) }
         ensures knows { OnOk result
-            (IsUnmet (octets_of file.now) object (content_of scalar.entry) self.old
+            (IsUnseen (octets_of file.now) object (content_of scalar.entry) self.old
             → KnowsScalars (octets_of file.now) self.new) }
     {
         if let Some(number) = self.memo.number_at(file, object, &scalar) {
@@ -99,7 +99,7 @@ impl<'a, S: BuildHasher + Copy> Plan<'a, S> {
         ensures numbers { IfOk result (λ number. (f : List ℕ) (r : ScalarRef)
             → NumbersScalar f object (content_of r) self.old self.new number) }
         ensures knows { OnOk result ((f : List ℕ) (r : ScalarRef)
-            → IsUnmet f object (content_of r) self.old → KnowsScalars f self.new) }
+            → IsUnseen f object (content_of r) self.old → KnowsScalars f self.new) }
     {
         let number = self.next_number()?;
         let original = short(object)?;

@@ -9,7 +9,7 @@ ghost use Rattle.std.specs.Prelude.{IfOk, IfSome, OnOk, length};
 ghost use Rattle.plist_object.specs.Layout.{trailer_of};
 ghost use Rattle.plist_object.specs.Places.{Holds};
 ghost use Rattle.plist_object.specs.Views.{held_of, octets_of};
-ghost use Rattle.plist_engine.specs.RepeatFilter.{AreAdded, AreMetAgain, HasAdded};
+ghost use Rattle.plist_engine.specs.RepeatFilter.{AreAdded, AreSeenAgain, HasAdded};
 ghost use Rattle.plist_engine.specs.RepeatFilter.{IsUnlike, MayRepeat};
 
 use crate::bits::{Bits, bit_of, mask_for};
@@ -78,7 +78,7 @@ impl RepeatFilterBuilder {
         ensures { IfOk result (λ filter. (f : List ℕ) (i : ℕ) → AreAdded f i self
             → HasAdded f i filter) }
     {
-        let again = met_again(alloc, self.mask, &self.bits)?;
+        let again = seen_again(alloc, self.mask, &self.bits)?;
         Ok(RepeatFilter {
             bits: self.bits,
             again,
@@ -87,8 +87,8 @@ impl RepeatFilterBuilder {
 }
 
 // Returns the bits that occur more than once. All of them are at most `mask`.
-fn met_again(alloc: Global, mask: u32, bits: &[u32]) -> Result<Bits, AllocError>
-    ensures { IfOk result (AreMetAgain (length bits.now) bits.now) }
+fn seen_again(alloc: Global, mask: u32, bits: &[u32]) -> Result<Bits, AllocError>
+    ensures { IfOk result (AreSeenAgain (length bits.now) bits.now) }
 {
     let mut once = Bits::new(alloc, mask)?;
     let mut again = Bits::new(alloc, mask)?;

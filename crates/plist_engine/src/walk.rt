@@ -72,7 +72,7 @@ fn walk_object<'a, S: BuildHasher + Copy>(
 ) -> Result<u32, AllocError>
     requires spells { SpellsWithin (octets_of file.now) object levels }
     requires knows { KnowsScalars (octets_of file.now) plan.old }
-    requires unmet { SINGLE ≤ kept plan.old.memo object }
+    requires unseen { SINGLE ≤ kept plan.old.memo object }
     requires ready { IsReady (octets_of file.now) order.old }
     ensures walked { IfOk result (IsWalked (octets_of file.now) object plan.old plan.new) }
     ensures knows { OnOk result (KnowsScalars (octets_of file.now) plan.new) }

@@ -28,6 +28,6 @@ octets_taken known (Known count) = take count known
 octets_taken known (Other octets) = octets.items
 
 -- The bytes taken are a prefix of the known ones in the first case, and are not in the second.
-abbrev pub StandsBeside : List ℕ → Taken → Type 0
-StandsBeside known (Known count) = count ≤ length known
-StandsBeside known (Other octets) = (rest : List ℕ) → octets.items ++ rest ≢ known
+abbrev pub ComparesWith : List ℕ → Taken → Type 0
+ComparesWith known (Known count) = count ≤ length known
+ComparesWith known (Other octets) = (rest : List ℕ) → octets.items ++ rest ≢ known

@@ -1,7 +1,7 @@
 //! Bytes taken from a source, compared with known ones as they come.
 ghost use Rattle.std.specs.Prelude.{◌≡◌, ◌≢◌, ◌≤◌, ◌++◌, List, ℕ, IfOk, IfSome};
 ghost use Rattle.std.specs.Prelude.{length, take};
-ghost use Rattle.plist_forms.specs.Load.{StandsBeside, octets_or, octets_taken};
+ghost use Rattle.plist_forms.specs.Load.{ComparesWith, octets_or, octets_taken};
 
 use std::alloc::{AllocError, Global};
 
@@ -17,7 +17,7 @@ pub(crate) enum Taken {
 impl Taken {
     /// Returns the number of bytes taken.
     pub(crate) fn len(&self) -> usize
-        ensures { (known : List ℕ) → StandsBeside known self.now
+        ensures { (known : List ℕ) → ComparesWith known self.now
             → result ≡ length (octets_taken known self.now) }
     {
         match self {
@@ -28,10 +28,10 @@ impl Taken {
 
     /// Appends a piece.
     pub(crate) fn then(self, alloc: Global, known: &[u8], piece: &[u8]) -> Result<Taken, AllocError>
-        requires { StandsBeside known.now self }
+        requires { ComparesWith known.now self }
         ensures octets { IfOk result (λ taken. octets_taken known.now taken
             ≡ octets_taken known.now self ++ piece.now) }
-        ensures beside { IfOk result (StandsBeside known.now) }
+        ensures beside { IfOk result (ComparesWith known.now) }
     {
         match self {
             Taken::Known(count) => then_after(alloc, known, count, piece),
@@ -48,7 +48,7 @@ impl Taken {
         alloc: Global,
         known: &[u8],
     ) -> Result<Option<Vec<u8>>, AllocError>
-        requires { StandsBeside known.now self }
+        requires { ComparesWith known.now self }
         ensures octets { IfOk result (λ found. octets_or known.now found
             ≡ octets_taken known.now self) }
         ensures other { IfOk result (λ found. IfSome found (λ octets. octets.items ≢ known.now)) }
@@ -66,7 +66,7 @@ fn then_after(alloc: Global, known: &[u8], count: usize, piece: &[u8]) -> Result
     requires { count ≤ length known.now }
     ensures octets { IfOk result (λ taken. octets_taken known.now taken
         ≡ take count known.now ++ piece.now) }
-    ensures beside { IfOk result (StandsBeside known.now) }
+    ensures beside { IfOk result (ComparesWith known.now) }
 {
     if known[count..].starts_with(piece) {
         return Ok(Taken::Known(count + piece.len()));

@@ -98,4 +98,4 @@ report_text report = decimal (number_of report.0) ++ (codes " " ++ (name_of repo
 
 -- no two refusals have the same image
 abbrev pub TellsApart : {A : Type 0} → (Refusal → A) → Type 0
-TellsApart told = (a b : Refusal) → told a ≡ told b → a ≡ b
+TellsApart image = (a b : Refusal) → image a ≡ image b → a ≡ b

@@ -58,8 +58,8 @@ gathered_unwritten octets old new before after fault within (inr goes) =
     inl (input.refused within (front_fault octets fault goes.sent goes.is))
 
 -- what the refusal of a text says of the input
-pub unwritten : (octets : List ℕ) (fault : Fault) (told : Refusal) → IsTextFault octets fault → told ≡ refusal_of fault 1
-    → IsUnwritten octets told
-unwritten octets fault told (inl unfit) is = unread fault unfit is
-unwritten octets fault told (inr none) is =
+pub unwritten : (octets : List ℕ) (fault : Fault) (reported : Refusal) → IsTextFault octets fault → reported ≡ refusal_of fault 1
+    → IsUnwritten octets reported
+unwritten octets fault reported (inl unfit) is = unread fault unfit is
+unwritten octets fault reported (inr none) is =
     no_text none.1.value (record { within = none.0; accepted = none.1.accepted }) none.1.none (rw none.1.is at is)

@@ -15,11 +15,11 @@ use Rattle.plistconv_c.specs.declared.refusals.Refusal.{Refusal}
 pub record IsNamed (fault : Fault) : Type 0 where
   pub one : Fault
   pub found : fault_at (unit_of (report_of fault).1) (code_of fault) (place_of (report_of fault).1) ≡ Some one
-  pub told : (input : ℕ) → refusal_of one input ≡ refusal_of fault input
+  pub reported : (input : ℕ) → refusal_of one input ≡ refusal_of fault input
   pub printed : fault_text one ≡ fault_text fault
 
 itself : (fault : Fault) → fault_at (unit_of (report_of fault).1) (code_of fault) (place_of (report_of fault).1) ≡ Some fault → IsNamed fault
-itself fault found = record { one = fault; found = found; told = λ _. refl; printed = refl }
+itself fault found = record { one = fault; found = found; reported = λ _. refl; printed = refl }
 
 pub named : (fault : Fault) → IsNamed fault
 named (Binary binary.TooShort) = itself _ refl
@@ -58,7 +58,7 @@ named (Text (text.Expected i)) = itself _ refl
 named (Text (text.Junk i)) = itself _ refl
 named (Text (text.BadUtf16 i)) = itself _ refl
 named (Text text.OutOfMemory) =
-    record { one = Binary binary.OutOfMemory; found = refl; told = λ _. refl; printed = refl }
+    record { one = Binary binary.OutOfMemory; found = refl; reported = λ _. refl; printed = refl }
 named NotInOpenStep = itself _ refl
 named ReadFailed = itself _ refl
 named (WriteFailed sent) = itself _ refl
@@ -66,24 +66,24 @@ named InputTooLarge = itself _ refl
 named (OutOfMemory sent) = itself _ refl
 
 -- the fault for a refusal has the same refusal and the same line as the fault that it describes
-pub record IsNamedBy (fault : Fault) (told : Refusal) : Type 0 where
+pub record IsNamedBy (fault : Fault) (reported : Refusal) : Type 0 where
   pub one : Fault
-  pub found : fault_at told.unit told.number told.place ≡ Some one
-  pub told_so : told ≡ refusal_of one told.input
+  pub found : fault_at reported.unit reported.number reported.place ≡ Some one
+  pub reported_is : reported ≡ refusal_of one reported.input
   pub printed : fault_text one ≡ fault_text fault
 
-pub named_by : (fault : Fault) → (input : ℕ) → (told : Refusal) → told ≡ refusal_of fault input → IsNamedBy fault told
-named_by fault input told is =
+pub named_by : (fault : Fault) → (input : ℕ) → (reported : Refusal) → reported ≡ refusal_of fault input → IsNamedBy fault reported
+named_by fault input reported is =
     let name = named fault in
     let by : IsNamedBy fault (refusal_of fault input) =
-    record { one = name.one; found = name.found; told_so = sym (name.told input); printed = name.printed } in
+    record { one = name.one; found = name.found; reported_is = sym (name.reported input); printed = name.printed } in
     subst (IsNamedBy fault) (sym is) by
 
 -- two faults with the same refusal have the same line
-pub printed_alike : (f : Fault) → (g : Fault) → (i : ℕ) → (j : ℕ) → (told : Refusal) → told ≡ refusal_of f i
-    → told ≡ refusal_of g j → fault_text f ≡ fault_text g
-printed_alike f g i j told is also =
-    let first = named_by f i told is in
-    let second = named_by g j told also in
+pub printed_alike : (f : Fault) → (g : Fault) → (i : ℕ) → (j : ℕ) → (reported : Refusal) → reported ≡ refusal_of f i
+    → reported ≡ refusal_of g j → fault_text f ≡ fault_text g
+printed_alike f g i j reported is also =
+    let first = named_by f i reported is in
+    let second = named_by g j reported also in
     let one : first.one ≡ second.one = same_Some _ _ (sym first.found ∙ second.found) in
     sym first.printed ∙ (ap fault_text one ∙ second.printed)

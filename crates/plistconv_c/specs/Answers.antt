@@ -19,20 +19,20 @@ use Rattle.plistconv_c.specs.declared.checking.Finding.{Finding}
 use Rattle.plistconv_c.specs.declared.refusals.Refusal.{Refusal}
 
 -- the canonical file of the input's value is in the buffer
-pub record IsCanonicalGiven (octets before after : List ℕ) (count : ℕ) (told : Refusal) : Type 0 where
+pub record IsCanonicalGiven (octets before after : List ℕ) (count : ℕ) (reported : Refusal) : Type 0 where
   pub within : length octets ≤ MAX_INPUT
   pub file : List ℕ
   pub canonical : IsCanonicalOf octets file
   pub given : IsGiven file before after count
-  pub none : told ≡ no_refusal
+  pub none : reported ≡ no_refusal
 
 -- the printed text of the input's value is in the buffer
-pub record IsPrintGiven (octets before after : List ℕ) (count : ℕ) (told : Refusal) : Type 0 where
+pub record IsPrintGiven (octets before after : List ℕ) (count : ℕ) (reported : Refusal) : Type 0 where
   pub within : length octets ≤ MAX_INPUT
   pub text : List ℕ
   pub of : IsPrintOf octets text
   pub given : IsGiven text before after count
-  pub none : told ≡ no_refusal
+  pub none : reported ≡ no_refusal
 
 -- the refusal of a call that gathers its output: a put fails only if memory runs out
 abbrev pub gathered_fault : Fault → Fault
@@ -41,21 +41,21 @@ gathered_fault (OutOfMemory sent) = OutOfMemory 0
 gathered_fault fault = fault
 
 -- the input is accepted: it encodes a value
-pub record IsLinted (octets : List ℕ) (told : Refusal) : Type 0 where
+pub record IsLinted (octets : List ℕ) (reported : Refusal) : Type 0 where
   pub value : Plist
   pub accepted : IsInputAccepted octets value
-  pub none : told ≡ no_refusal
+  pub none : reported ≡ no_refusal
 
 -- the input is refused, and the refusal describes why
-pub record IsRefusalTold (octets : List ℕ) (told : Refusal) (number : ℕ) : Type 0 where
+pub record IsRefusalReported (octets : List ℕ) (reported : Refusal) (number : ℕ) : Type 0 where
   pub fault : Fault
   pub refused : IsInputRefused octets fault
-  pub told_so : told ≡ refusal_of fault 1
-  pub number_told : number ≡ told.number
+  pub reported_is : reported ≡ refusal_of fault 1
+  pub number_reported : number ≡ reported.number
 
 -- the input is refused, and the buffer is unchanged
-pub record IsRefusedWhole (octets before after : List ℕ) (count : ℕ) (told : Refusal) (number : ℕ) : Type 0 where
-  pub input : IsRefusalTold octets told number
+pub record IsRefusedWhole (octets before after : List ℕ) (count : ℕ) (reported : Refusal) (number : ℕ) : Type 0 where
+  pub input : IsRefusalReported octets reported number
   pub kept : after ≡ before
   pub nothing : count ≡ 0
 
@@ -65,13 +65,13 @@ number_of true = 1
 number_of false = 0
 
 -- both are accepted, and the result is whether their values are equal
-pub record IsCompared (first second : List ℕ) (equal : ℕ) (told : Refusal) : Type 0 where
+pub record IsCompared (first second : List ℕ) (equal : ℕ) (reported : Refusal) : Type 0 where
   pub first_within : length first ≤ MAX_INPUT
   pub second_within : length second ≤ MAX_INPUT
   pub same : Bool
   pub pair : IsPair first second same
   pub answer : equal ≡ number_of same
-  pub none : told ≡ no_refusal
+  pub none : reported ≡ no_refusal
 
 -- the input that is refused, and its fault; the second only if the first is accepted
 pub data RefusedInput (first second : List ℕ) (fault : Fault) (input : ℕ) : Type 0 where
@@ -79,12 +79,12 @@ pub data RefusedInput (first second : List ℕ) (fault : Fault) (input : ℕ) : 
   second_refused : (v : Plist) → IsInputAccepted first v → IsInputRefused second fault → input ≡ 2 → RefusedInput first second fault input
 
 -- one of the two is refused, and the refusal describes why
-pub record IsRefusedPair (first second : List ℕ) (equal : ℕ) (told : Refusal) (number : ℕ) : Type 0 where
+pub record IsRefusedPair (first second : List ℕ) (equal : ℕ) (reported : Refusal) (number : ℕ) : Type 0 where
   pub fault : Fault
   pub input : ℕ
   pub refused : RefusedInput first second fault input
-  pub told_so : told ≡ refusal_of fault input
-  pub number_told : number ≡ told.number
+  pub reported_is : reported ≡ refusal_of fault input
+  pub number_reported : number ≡ reported.number
   pub nothing : equal ≡ 0
 
 -- the verdict in numbers
@@ -93,20 +93,20 @@ finding_of Canonical = record { object = 0; canonical = 1; rule = 0 }
 finding_of (Broken rule object) = record { object = object; canonical = 0; rule = rule }
 
 -- the bytes have the layout, and the finding describes the verdict on them
-pub record IsChecked (octets : List ℕ) (finding : Finding) (told : Refusal) : Type 0 where
+pub record IsChecked (octets : List ℕ) (finding : Finding) (reported : Refusal) : Type 0 where
   pub within : length octets ≤ MAX_INPUT
   pub laid : IsLaid octets
   pub verdict : Verdict
   pub found : IsVerdict octets verdict
-  pub finding_told : finding ≡ finding_of verdict
+  pub finding_reported : finding ≡ finding_of verdict
   pub canonical : finding.canonical ≡ 1 → IsCanonical octets
   pub other : finding.canonical ≡ 0 → ¬ IsCanonical octets
-  pub none : told ≡ no_refusal
+  pub none : reported ≡ no_refusal
 
 -- the input is too large, does not have the layout, or memory ran out, and the refusal says so
-pub record IsUnchecked (octets : List ℕ) (finding : Finding) (told : Refusal) (number : ℕ) : Type 0 where
+pub record IsUnchecked (octets : List ℕ) (finding : Finding) (reported : Refusal) (number : ℕ) : Type 0 where
   pub fault : Fault
   pub refused : IsCheckRefused octets fault
-  pub told_so : told ≡ refusal_of fault 1
-  pub number_told : number ≡ told.number
+  pub reported_is : reported ≡ refusal_of fault 1
+  pub number_reported : number ≡ reported.number
   pub nothing : finding ≡ record { object = 0; canonical = 0; rule = 0 }

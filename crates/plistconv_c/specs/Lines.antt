@@ -10,23 +10,23 @@ use Rattle.plistconv_c.specs.Refusals.{refusal_of}
 use Rattle.plistconv_c.specs.declared.refusals.Refusal.{Refusal}
 
 -- the refusal describes some fault
-abbrev pub IsTold : Refusal → Type 0
-IsTold told = (fault : Fault) × ((input : ℕ) × (told ≡ refusal_of fault input))
+abbrev pub IsReported : Refusal → Type 0
+IsReported reported = (fault : Fault) × ((input : ℕ) × (reported ≡ refusal_of fault input))
 
 -- The buffer has the line of the fault that the refusal describes. There is such a fault, and if
 -- there are several, they have the same line.
-pub record IsLineGiven (path before after : List ℕ) (count : ℕ) (told : Refusal) : Type 0 where
-  pub known : IsTold told
-  pub given : (fault : Fault) → (input : ℕ) → told ≡ refusal_of fault input
+pub record IsLineGiven (path before after : List ℕ) (count : ℕ) (reported : Refusal) : Type 0 where
+  pub known : IsReported reported
+  pub given : (fault : Fault) → (input : ℕ) → reported ≡ refusal_of fault input
       → IsGiven (line_of path fault) before after count
 
 -- the refusal describes no fault
-abbrev pub IsUntold : Refusal → Type 0
-IsUntold told = (fault : Fault) → (input : ℕ) → told ≡ refusal_of fault input → ⊥
+abbrev pub IsUnreported : Refusal → Type 0
+IsUnreported reported = (fault : Fault) → (input : ℕ) → reported ≡ refusal_of fault input → ⊥
 
 -- memory ran out for the line, or the refusal describes no fault; the buffer is unchanged
-pub record IsNoLine (before after : List ℕ) (count : ℕ) (told : Refusal) (number : ℕ) : Type 0 where
-  pub reason : ((number ≡ 60) × IsTold told) ⊎ ((number ≡ 255) × IsUntold told)
+pub record IsNoLine (before after : List ℕ) (count : ℕ) (reported : Refusal) (number : ℕ) : Type 0 where
+  pub reason : ((number ≡ 60) × IsReported reported) ⊎ ((number ≡ 255) × IsUnreported reported)
   pub kept : after ≡ before
   pub nothing : count ≡ 0
 

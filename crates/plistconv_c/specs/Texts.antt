@@ -13,23 +13,23 @@ use Rattle.plistconv_c.specs.Refusals.{no_refusal, refusal_of}
 use Rattle.plistconv_c.specs.declared.refusals.Refusal.{Refusal}
 
 -- the text of the input's value is in the buffer
-pub record IsTextGiven (octets before after : List ℕ) (count : ℕ) (told : Refusal) : Type 0 where
+pub record IsTextGiven (octets before after : List ℕ) (count : ℕ) (reported : Refusal) : Type 0 where
   pub value : Plist
   pub text : List ℕ
   pub accepted : IsInputAccepted octets value
   pub written : text_of value ≡ Some text
   pub given : IsGiven text before after count
-  pub none : told ≡ no_refusal
+  pub none : reported ≡ no_refusal
 
 -- the input is refused, or encodes a value that has no text
-pub data IsUnwritten (octets : List ℕ) (told : Refusal) : Type 0 where
-  unread : (fault : Fault) → IsInputRefused octets fault → told ≡ refusal_of fault 1 → IsUnwritten octets told
-  no_text : (v : Plist) → IsInputAccepted octets v → text_of v ≡ None → told ≡ refusal_of NotInOpenStep 1 → IsUnwritten octets told
+pub data IsUnwritten (octets : List ℕ) (reported : Refusal) : Type 0 where
+  unread : (fault : Fault) → IsInputRefused octets fault → reported ≡ refusal_of fault 1 → IsUnwritten octets reported
+  no_text : (v : Plist) → IsInputAccepted octets v → text_of v ≡ None → reported ≡ refusal_of NotInOpenStep 1 → IsUnwritten octets reported
 
 -- the refusal describes why, and the buffer is unchanged
-pub record IsTextRefused (octets before after : List ℕ) (count : ℕ) (told : Refusal) (number : ℕ) : Type 0 where
-  pub reason : IsUnwritten octets told
-  pub number_told : number ≡ told.number
+pub record IsTextRefused (octets before after : List ℕ) (count : ℕ) (reported : Refusal) (number : ℕ) : Type 0 where
+  pub reason : IsUnwritten octets reported
+  pub number_reported : number ≡ reported.number
   pub kept : after ≡ before
   pub nothing : count ≡ 0
 

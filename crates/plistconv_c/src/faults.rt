@@ -1,6 +1,6 @@
 //! The fault that a refusal describes.
 ghost use Rattle.std.specs.Prelude.{◌≡◌, None, IfSome};
-ghost use Rattle.plistconv_c.specs.Lines.{IsUntold, fault_after, fault_at, fault_at_object};
+ghost use Rattle.plistconv_c.specs.Lines.{IsUnreported, fault_after, fault_at, fault_at_object};
 ghost use Rattle.plistconv_c.specs.Lines.{fault_at_octet, fault_nowhere};
 ghost use Rattle.plistconv_c.specs.Refusals.{refusal_of};
 
@@ -13,7 +13,7 @@ use plist_forms::Fault;
 // as a refusal; returns one of them.
 pub(crate) fn fault_of(refusal: &Refusal) -> Option<Fault>
     ensures found { IfSome result (λ fault. refusal.now ≡ refusal_of fault refusal.now.input) }
-    ensures none { result ≡ None → IsUntold refusal.now }
+    ensures none { result ≡ None → IsUnreported refusal.now }
 {
     let fault = fault_at(refusal.unit, refusal.number, refusal.place)?;
     if Refusal::of(&fault, refusal.input) == *refusal {

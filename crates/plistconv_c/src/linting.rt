@@ -1,7 +1,7 @@
 //! Checking whether an input is accepted.
 ghost use Rattle.std.specs.Prelude.{◌≡◌, ◌≢◌, IfErr, OnOk};
 ghost use Rattle.plist_value.specs.Plist.{Plist};
-ghost use Rattle.plistconv_c.specs.Answers.{IsLinted, IsRefusalTold};
+ghost use Rattle.plistconv_c.specs.Answers.{IsLinted, IsRefusalReported};
 ghost use Rattle.plistconv_c.specs.Inputs.{IsInputAccepted, IsInputRefused};
 
 use crate::Refusal;
@@ -17,7 +17,7 @@ use std::alloc::Global;
 #[unsafe(no_mangle)]
 pub extern "C" fn plistconv_lint(alloc: Global, octets: &[u8], refusal: &mut Refusal) -> u8
     ensures linted { result ≡ 0 → IsLinted octets.now refusal.new }
-    ensures refused { result ≢ 0 → IsRefusalTold octets.now refusal.new result }
+    ensures refused { result ≢ 0 → IsRefusalReported octets.now refusal.new result }
 {
     match judged(alloc, octets) {
         Ok(()) => {

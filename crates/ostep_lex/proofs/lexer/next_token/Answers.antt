@@ -2,7 +2,7 @@ use Rattle.std.proofs.Common.{◌≡◌, [], subst}
 use Rattle.ostep_lex.specs.Gap.{Gap}
 use Rattle.ostep_lex.specs.Lexeme.{lexeme_of}
 use Rattle.ostep_lex.specs.Lexing.{HasNoTokens}
-use Rattle.ostep_lex.specs.Stands.{FaultAt, FaultBehind, Stands, gap}
+use Rattle.ostep_lex.specs.Stands.{FaultAt, FaultAfterGap, Stands, gap}
 use Rattle.ostep_lex.specs.Cursor.{ahead, places_in, PassesToken, UnlessMemory}
 use Rattle.ostep_lex.proofs.Exits.{passed_on}
 use Rattle.ostep_lex.proofs.LexerSteps.{passes_placed, placed_shorter, after_more, after_all, after_stands, after_none}
@@ -18,7 +18,7 @@ returns-in_err-start-clause-refused c octets tokens b =
     passed_on (UnlessMemory (λ fault. HasNoTokens octets)) _ c.from_residual.result c.from_residual.ensures.1 (after_none b (λ n. c.in_err-start.ensures.err))
 
 -- the fault after the gap
-after_gap : (c : In_err-kind) → UnlessMemory (FaultBehind (places_in c.args.cursor) (ahead c.args.cursor)) c.in_err-kind.field-0.0
+after_gap : (c : In_err-kind) → UnlessMemory (FaultAfterGap (places_in c.args.cursor) (ahead c.args.cursor)) c.in_err-kind.field-0.0
 after_gap c n =
     let g = c.in_ok-start.ensures.ok in
     gap g.gap (subst (λ p. FaultAt p (ahead c.in_ok-start.start) c.in_err-kind.field-0.0) g.input (c.in_err-kind.ensures.err n))

@@ -2,7 +2,7 @@ use Rattle.std.proofs.Common.{◌∷◌, ◌++◌, [], map, subst}
 use Rattle.ostep_lex.specs.Lexeme.{placed}
 use Rattle.ostep_lex.specs.Lexing.{HasTokens, HasNoTokens}
 use Rattle.ostep_lex.specs.Stands.{Stands}
-use Rattle.ostep_lex.specs.Cursor.{StandsBehind, UnlessMemory}
+use Rattle.ostep_lex.specs.Cursor.{IsAfter, UnlessMemory}
 use Rattle.ostep_lex.proofs.LawProofs.{HasTokens-spans}
 use Rattle.ostep_lex.proofs.Exits.{passed_on}
 use Rattle.ostep_lex.proofs.LexerSteps.{found_more}
@@ -24,9 +24,9 @@ returns-in_err-token-clause-refused c =
 
 pub loop-found-preserved : goal.loop-found-preserved
 loop-found-preserved c =
-    let b : StandsBehind c.args.octets.now (map placed c.loop-found.found.items ++ placed c.in-Some.token ∷ []) c.in-Some.after =
+    let b : IsAfter c.args.octets.now (map placed c.loop-found.found.items ++ placed c.in-Some.token ∷ []) c.in-Some.after =
     rw c.in-Some.is at (c.in_ok-token.ensures.ok _ _ c.loop-found.invariant) in
-    subst (λ ts. StandsBehind c.args.octets.now ts c.in-Some.after) (found_more c.loop-found.found.items c.push.new.self.items c.in-Some.token c.in_ok-push.ensures.items) b
+    subst (λ ts. IsAfter c.args.octets.now ts c.in-Some.after) (found_more c.loop-found.found.items c.push.new.self.items c.in-Some.token c.in_ok-push.ensures.items) b
 
 pub returns-clause-spans : goal.returns-clause-spans
 returns-clause-spans c =

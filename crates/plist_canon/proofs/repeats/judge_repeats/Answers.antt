@@ -3,16 +3,16 @@ use Rattle.std.specs.Option.{is_some}
 use Rattle.plist_object.specs.Views.{octets_of}
 use Rattle.plist_canon.specs.Rules.{IsNoRepeat}
 use Rattle.plist_engine.specs.RepeatFilter.{HasAdded}
-use Rattle.plist_canon.specs.Met.{HasMet}
+use Rattle.plist_canon.specs.Seen.{HasSeen}
 use Rattle.plist_object.proofs.KeysInTurn.{below_or_last}
 use Rattle.plist_canon.proofs.repeats.judge_repeats.Goals as goal
 
 pub loop-i-init : goal.loop-i-init
 loop-i-init g c = record {
   single = λ j below. absurd (omega (arith, below));
-  met = record {
-    numbered = c.new-met.ensures.numbered;
-    each = λ q. (λ found. absurd (true≢false (sym found ∙ ap is_some (c.new-met.ensures.unknown q))), λ held. absurd (omega (arith, held.1.0)));
+  seen = record {
+    numbered = c.new-seen.ensures.numbered;
+    each = λ q. (λ found. absurd (true≢false (sym found ∙ ap is_some (c.new-seen.ensures.unknown q))), λ held. absurd (omega (arith, held.1.0)));
   };
 }
 
@@ -25,7 +25,7 @@ judge_repeat-requires g c =
       added = subst (λ (n : ℕ). HasAdded f n filter) (sym added.added) added;
       among = omega (arith, c.loop-i-test.true, c.len-i-end.ensures);
       listed = omega (arith, c.loop-i-test.true, c.len-i-end.ensures, added.added, c.requires.listed);
-      met = c.loop-i.invariant.met;
+      seen = c.loop-i.invariant.seen;
     }
 
 pub loop-i-preserved : goal.loop-i-preserved
@@ -34,7 +34,7 @@ loop-i-preserved g c =
     let i = c.loop-i.i in
     record {
       single = below_or_last (λ j. IsNoRepeat f j) i c.loop-i.invariant.single c.in_ok-judge_repeat.ensures.ok;
-      met = subst (λ (n : ℕ). HasMet c.in_ok-filter.filter f n c.judge_repeat.new.met) (sym (add-one i)) c.in_ok-judge_repeat.ensures.met;
+      seen = subst (λ (n : ℕ). HasSeen c.in_ok-filter.filter f n c.judge_repeat.new.seen) (sym (add-one i)) c.in_ok-judge_repeat.ensures.seen;
     }
 
 pub returns-clause-ok : goal.returns-clause-ok

@@ -9,7 +9,7 @@ use Rattle.plist_value.specs.Plist.{text, scalar, Items, no_items, item, AreItem
 use Rattle.plist_value.specs.View.{view, view_items, view_pairs}
 use Rattle.plist_value.specs.declared.value.Value.{Value}
 use Rattle.plist_value.proofs.Keys.{IsKeyBelow-ordered}
-use Rattle.plist_draft.specs.Told.{SpellsIn}
+use Rattle.plist_draft.specs.Encoded.{SpellsIn}
 use Rattle.plist_draft.specs.View.{objects}
 use Rattle.plist_draft.proofs.Valued.{Keeps-both, items-next, items-end, pairs-next, pairs-end, table-put}
 use Rattle.plist_draft.proofs.values.+values.Goals as goal
@@ -64,8 +64,8 @@ put_pairs-returns-clause-spells t c =
 
 pub put_table-returns-clause-spells : goal.put_table-returns-clause-spells
 put_table-returns-clause-spells t c =
-    let told = rw (sym c.deref.ensures.value, sym c.deref-2.ensures.value) at c.in_ok-keys.ensures.spells in
-    table-put _ _ _ _ _ c.put_table.result told c.put_table.ensures.spells
+    let encoded = rw (sym c.deref.ensures.value, sym c.deref-2.ensures.value) at c.in_ok-keys.ensures.spells in
+    table-put _ _ _ _ _ c.put_table.result encoded c.put_table.ensures.spells
 
 pub put_items-returns-in_err-push-clause-spells : goal.put_items-returns-in_err-push-clause-spells
 put_items-returns-in_err-push-clause-spells t c = IfOk-from_err _ _ c.from_residual-in_err-push.ensures.0

@@ -5,7 +5,7 @@ use Rattle.std.specs.List.Sorted.{IsStrictlySortedBy}
 use Rattle.std.specs.Map.{keys_of}
 use Rattle.plist_value.specs.Plist.{AreItems, ArePairs}
 use Rattle.plist_value.specs.View.{view_items, view_pairs}
-use Rattle.plist_draft.specs.Told.{Keeps}
+use Rattle.plist_draft.specs.Encoded.{Keeps}
 use Rattle.plist_draft.specs.View.{objects}
 use Rattle.plist_draft.proofs.Valued.{ItemsLeft, PairsLeft}
 use Rattle.plist_draft.proofs.values.+values.Given as goal

@@ -9,7 +9,7 @@ use Rattle.plist_object.specs.Objects.{holds_scalar}
 use Rattle.plist_object.specs.Places.{Holds, what_holds}
 use Rattle.plist_engine.specs.Memo.{kept, single}
 use Rattle.plist_engine.specs.declared.plan.Plan.{Plan}
-use Rattle.plist_engine.specs.Plan.{is_held, Begins, ItemsWalked, IsUnmet, KnowsScalars}
+use Rattle.plist_engine.specs.Plan.{is_held, Begins, ItemsWalked, IsUnseen, KnowsScalars}
 use Rattle.plist_engine.specs.Spelling.{SpellWithin, in_turn}
 use Rattle.plist_object.specs.Spelled.{SpellsWithin}
 use Rattle.plist_engine.proofs.Filling.{filling-start, filling-long, filling-object, filling-next, filling-end}
@@ -35,8 +35,8 @@ walk-returns-in-Some-clause-walked g t c =
     walked-again f i c.args.levels plan number c.requires.spells (number-remembered f plan i number c.in-Some.ensures.is c.in-Some.ensures.some c.requires.knows)
 
 -- the object contains the scalar, and was not visited
-unmet : {S H : Type 0} (f : List ℕ) (i : ℕ) (r : ScalarRef) (plan : Plan S H) → KnowsScalars f plan → single ≤ kept plan.memo i → Holds f i (holds_scalar (content_of r)) → IsUnmet f i (content_of r) plan
-unmet f i r plan knows none holds = record { knows = knows; holds = holds; unmet = none }
+unseen : {S H : Type 0} (f : List ℕ) (i : ℕ) (r : ScalarRef) (plan : Plan S H) → KnowsScalars f plan → single ≤ kept plan.memo i → Holds f i (holds_scalar (content_of r)) → IsUnseen f i (content_of r) plan
+unseen f i r plan knows none holds = record { knows = knows; holds = holds; unseen = none }
 
 pub walk-returns-then-is_single-clause-walked : goal.walk-returns-then-is_single-clause-walked
 walk-returns-then-is_single-clause-walked g t c =
@@ -47,7 +47,7 @@ walk-returns-then-is_single-clause-walked g t c =
     let held = (c.requires.knows.singles i (c.is_single.ensures c.if-is_single.true)).0 in
     let r = held.0 in
     IfOk-weaker c.single.result _ _
-    (λ number numbers. walked-scalar f i (content_of r) old c.single.new.self number (unmet f i r old c.requires.knows c.in_default.ensures.none held.1) (valid_at f i (content_of r) within.value within.valid within.spells held.1) (numbers f r))
+    (λ number numbers. walked-scalar f i (content_of r) old c.single.new.self number (unseen f i r old c.requires.knows c.in_default.ensures.none held.1) (valid_at f i (content_of r) within.value within.valid within.spells held.1) (numbers f r))
     c.single.ensures.numbers
 
 pub walk-returns-then-is_single-clause-knows : goal.walk-returns-then-is_single-clause-knows
@@ -57,7 +57,7 @@ walk-returns-then-is_single-clause-knows g t c =
     let plan = c.args.plan.now in
     let held = (c.requires.knows.singles i (c.is_single.ensures c.if-is_single.true)).0 in
     on_ok_weaker c.single.result
-    (λ keeps. keeps f held.0 (unmet f i held.0 plan c.requires.knows c.in_default.ensures.none held.1))
+    (λ keeps. keeps f held.0 (unseen f i held.0 plan c.requires.knows c.in_default.ensures.none held.1))
     c.single.ensures.knows
 
 pub walk_object-object_of-requires : goal.walk_object-object_of-requires
@@ -107,7 +107,7 @@ walk_object-returns-in-Scalar-clause-walked g t c =
     let new = c.scalar.new.self in
     let r = c.in-Scalar.scalar in
     IfOk-weaker c.scalar.result _ _
-    (λ number numbers. walked-scalar f c.args.object (content_of r) old new number (unmet f c.args.object r old c.requires.knows c.requires.unmet c.in-Scalar.ensures.holds) c.in-Scalar.ensures.valid numbers)
+    (λ number numbers. walked-scalar f c.args.object (content_of r) old new number (unseen f c.args.object r old c.requires.knows c.requires.unseen c.in-Scalar.ensures.holds) c.in-Scalar.ensures.valid numbers)
     c.scalar.ensures.numbers
 
 pub walk_object-returns-in_ok-walk_children-in-List-clause-walked : goal.walk_object-returns-in_ok-walk_children-in-List-clause-walked
@@ -128,7 +128,7 @@ pub walk_object-returns-in-Scalar-clause-knows : goal.walk_object-returns-in-Sca
 walk_object-returns-in-Scalar-clause-knows g t c =
     let f = octets_of c.args.file.now in
     on_ok_weaker c.scalar.result
-    (λ keeps. keeps (unmet f c.args.object c.in-Scalar.scalar c.args.plan.now c.requires.knows c.requires.unmet c.in-Scalar.ensures.holds))
+    (λ keeps. keeps (unseen f c.args.object c.in-Scalar.scalar c.args.plan.now c.requires.knows c.requires.unseen c.in-Scalar.ensures.holds))
     c.scalar.ensures.knows
 
 pub walk_children-loop-i-init : goal.walk_children-loop-i-init

@@ -8,11 +8,11 @@ returns-in-Err-clause-checked c = λ zero. let above = code_above c.in-Err.fault
 
 pub returns-in-Err-clause-refused : goal.returns-in-Err-clause-refused
 returns-in-Err-clause-refused c = λ _.
-    let told = c.of.ensures in
+    let reported = c.of.ensures in
     record {
       fault = c.in-Err.fault;
       refused = c.in-Err.ensures.fault;
-      told_so = told;
-      number_told = c.code.ensures ∙ sym (ap (λ (r : Refusal). r.number) told);
+      reported_is = reported;
+      number_reported = c.code.ensures ∙ sym (ap (λ (r : Refusal). r.number) reported);
       nothing = refl;
     }

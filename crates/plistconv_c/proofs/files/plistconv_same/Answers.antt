@@ -9,12 +9,12 @@ pub returns-in-Err-Second-clause-refused : goal.returns-in-Err-Second-clause-ref
 returns-in-Err-Second-clause-refused c = λ _.
     let refused : (v : Plist) × (IsInputAccepted c.args.first.now v × IsInputRefused c.args.second.now c.in-Err-Second.fault) =
     subst (IsPairRefused c.args.first.now c.args.second.now) c.in-Err-Second.field-0-is c.in-Err-Second.ensures.refused in
-    let told = c.of-in-Err-Second.ensures in
+    let reported = c.of-in-Err-Second.ensures in
     record {
       fault = c.in-Err-Second.fault;
       input = 2;
       refused = second_refused refused.0 refused.1.0 refused.1.1 refl;
-      told_so = told;
-      number_told = c.code-in-Err-Second.ensures ∙ sym (ap (λ (r : Refusal). r.number) told);
+      reported_is = reported;
+      number_reported = c.code-in-Err-Second.ensures ∙ sym (ap (λ (r : Refusal). r.number) reported);
       nothing = refl;
     }

@@ -12,14 +12,14 @@ pub returns-in-Ok-clause-given : goal.returns-in-Ok-clause-given
 returns-in-Ok-clause-given c = λ _.
     let path = c.args.path.now in
     let one = c.in-Some.fault in
-    let told = c.in-Some.ensures.found in
+    let reported = c.in-Some.ensures.found in
     let given : (octets : List ℕ) → octets ≡ line_of path one
     → IsGiven octets c.args.into.now c.give.new.into c.give.new.length =
     λ octets is. subst (λ (xs : List ℕ). IsGiven xs c.args.into.now c.give.new.into c.give.new.length)
     ((c.deref.ensures.value ∙ c.in-Ok.ensures) ∙ sym is) c.give.ensures in
     record {
-      known = (one, (c.args.refusal.now.input, told));
+      known = (one, (c.args.refusal.now.input, reported));
       given = λ fault input is. given (line_of path fault)
           (ap (λ (text : List ℕ). path ++ (codes ": refused " ++ text))
-          (printed_alike fault one input c.args.refusal.now.input c.args.refusal.now is told));
+          (printed_alike fault one input c.args.refusal.now.input c.args.refusal.now is reported));
     }

@@ -6,9 +6,9 @@ use Rattle.plist_value.specs.Limits.{nodes}
 use Rattle.plist_value.specs.Texts.{units_of}
 use Rattle.plist_object.specs.Objects.{holds_scalar, holds_list, holds_table}
 use Rattle.plist_draft.specs.View.{objects}
-use Rattle.plist_draft.specs.Told.{SpellsIn}
+use Rattle.plist_draft.specs.Encoded.{SpellsIn}
 use Rattle.ostep_lex.specs.Lexeme.{Lexeme, Placed, placed, lexeme_of, semicolon, equals}
-use Rattle.ostep_lex.specs.Cursor.{StandsBehind}
+use Rattle.ostep_lex.specs.Cursor.{IsAfter}
 use Rattle.ostep_draft.specs.First.{first_lexeme}
 use Rattle.ostep_draft.specs.Held.{Puts}
 use Rattle.ostep_draft.specs.Drafted.{DraftsValue, DraftsItems, DraftsRow}
@@ -87,7 +87,7 @@ items-returns-then-ends_list-clause-read t c octets tokens h =
 
 -- what is drafted of the items and one more, up to the token after it
 item-drafted : (t : ℕ) (c : items-In_ok-behind t) {l : Lexeme} {end : List Lexeme} → EndsItem l end → lexeme_of c.in_ok-behind.behind.kind ≡ l → (octets : List ℕ) (tokens : List Placed)
-    → StandsBehind octets tokens c.args.self.now.tokens.cursor → DraftsItems octets tokens end c.push.new.self.items (objects c.value.new.self.draft) c.expect_mark.new.self.cursor
+    → IsAfter octets tokens c.args.self.now.tokens.cursor → DraftsItems octets tokens end c.push.new.self.items (objects c.value.new.self.draft) c.expect_mark.new.self.cursor
 item-drafted t c ends is octets tokens h =
     let first = c.in_ok-first.ensures.read in
     drafts-more (objects c.loop-items.self.draft) (objects c.value.new.self.draft) c.loop-items.items.items c.push.new.self.items c.in_ok-item.item first.token (placed c.in_ok-behind.behind)
@@ -168,7 +168,7 @@ rows-loop-rows-preserved t c =
       kept = λ i held h. kept i held (c.loop-rows.invariant.kept i held h);
       even = more-even rows.keys.items rows.values.items row.0 row.1 c.in_ok-push.ensures.keys c.in_ok-push.ensures.values c.loop-rows.invariant.even;
       read = λ octets tokens h.
-          let reads : (all : List Placed) → StandsBehind octets (all ++ c.in_ok-key.ensures.read.token ∷ []) c.expect.new.self.cursor → DraftsRow octets all row (objects c.row.new.self.draft) c.row.new.self.tokens.cursor =
+          let reads : (all : List Placed) → IsAfter octets (all ++ c.in_ok-key.ensures.read.token ∷ []) c.expect.new.self.cursor → DraftsRow octets all row (objects c.row.new.self.draft) c.row.new.self.tokens.cursor =
           λ all stands. c.in_ok-row.ensures.read octets all c.in_ok-key.ensures.read.token c.in_ok-key.ensures.read.is stands in
           drafts-row-more (objects c.loop-rows.self.draft) (objects c.row.new.self.draft) rows.keys.items c.push.new.self.keys.items rows.values.items c.push.new.self.values.items row c.in_ok-key.ensures.read.token
           c.in_ok-push.ensures.keys c.in_ok-push.ensures.values c.loop-rows.invariant.even kept (c.loop-rows.invariant.read octets tokens h) (c.in_ok-key.ensures.read.stands octets) reads;

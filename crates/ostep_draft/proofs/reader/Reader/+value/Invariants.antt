@@ -4,7 +4,7 @@ use Rattle.plist_value.specs.Plist.{Items, Pairs}
 use Rattle.plist_value.specs.Limits.{nodes_of_items, nodes_of_pairs, depth_of_items, depth_of_pairs}
 use Rattle.plist_draft.specs.View.{objects}
 use Rattle.ostep_lex.specs.Lexeme.{Lexeme, Placed, paren_close, brace_close}
-use Rattle.ostep_lex.specs.Cursor.{ahead, StandsBehind}
+use Rattle.ostep_lex.specs.Cursor.{ahead, IsAfter}
 use Rattle.ostep_text.specs.Phrase.{ItemsPhrase, RowsPhrase}
 use Rattle.ostep_draft.specs.Held.{AllRemain}
 use Rattle.ostep_draft.specs.Left.{AreLeft}
@@ -43,7 +43,7 @@ invariant-items-loop-items l =
     record {
       shorter : length (ahead l.self.tokens.cursor) ≤ length (ahead l.initial.self.tokens.cursor);
       kept : AllRemain (objects l.initial.self.draft) (objects l.self.draft);
-      read : (octets : List ℕ) (tokens : List Placed) → StandsBehind octets tokens l.initial.self.tokens.cursor
+      read : (octets : List ℕ) (tokens : List Placed) → IsAfter octets tokens l.initial.self.tokens.cursor
           → DraftsItems octets tokens [] l.items.items (objects l.self.draft) l.self.tokens.cursor;
       found : (octets : List ℕ) (rest : List Lexeme) → AreLeft octets l.initial.self.tokens.cursor rest → (vs : Items) (behind : List Lexeme)
           → ItemsPhrase rest vs (paren_close ∷ behind) → (spare : ℕ) → Allows l.levels l.initial.self.left (depth_of_items vs) (nodes_of_items vs) spare
@@ -56,7 +56,7 @@ invariant-rows-loop-rows l =
       shorter : length (ahead l.self.tokens.cursor) ≤ length (ahead l.initial.self.tokens.cursor);
       kept : AllRemain (objects l.initial.self.draft) (objects l.self.draft);
       even : length l.rows.keys.items ≡ length l.rows.values.items;
-      read : (octets : List ℕ) (tokens : List Placed) → StandsBehind octets tokens l.initial.self.tokens.cursor
+      read : (octets : List ℕ) (tokens : List Placed) → IsAfter octets tokens l.initial.self.tokens.cursor
           → DraftsRows octets tokens [] l.rows.keys.items l.rows.values.items (objects l.self.draft) l.self.tokens.cursor;
       found : (octets : List ℕ) (rest : List Lexeme) → AreLeft octets l.initial.self.tokens.cursor rest → (ps : Pairs) (behind : List Lexeme)
           → RowsPhrase rest ps (brace_close ∷ behind) → (spare : ℕ) → Allows l.levels l.initial.self.left (depth_of_pairs ps) (nodes_of_pairs ps) spare

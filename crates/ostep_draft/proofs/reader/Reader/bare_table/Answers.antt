@@ -2,11 +2,11 @@ use Rattle.std.proofs.Common.{◌≡◌, ◌∷◌, ◌++◌, [], List, length, 
 use Rattle.std.proofs.lemmas.Result.{IfOk-weaker}
 use Rattle.plist_value.specs.Plist.{table}
 use Rattle.plist_object.specs.Objects.{holds_table}
-use Rattle.plist_draft.specs.Told.{SpellsIn}
+use Rattle.plist_draft.specs.Encoded.{SpellsIn}
 use Rattle.plist_draft.specs.View.{objects}
 use Rattle.ostep_lex.specs.Lexeme.{Placed}
 use Rattle.ostep_lex.specs.Lexing.{HasTokens}
-use Rattle.ostep_lex.specs.Cursor.{AddsToken, StandsBehind}
+use Rattle.ostep_lex.specs.Cursor.{AddsToken, IsAfter}
 use Rattle.ostep_draft.specs.First.{first_lexeme}
 use Rattle.ostep_draft.specs.Held.{Puts}
 use Rattle.ostep_draft.specs.Drafted.{DraftsRow, DraftsText}
@@ -36,7 +36,7 @@ loop-rows-preserved c =
     record {
       even = more-even rows.keys.items rows.values.items row.0 row.1 c.in_ok-push.ensures.keys c.in_ok-push.ensures.values c.loop-rows.invariant.even;
       read = λ octets h.
-          let reads : (all : List Placed) → StandsBehind octets (all ++ at ∷ []) c.next.new.self.cursor → DraftsRow octets all row (objects c.row.new.self.draft) c.row.new.self.tokens.cursor =
+          let reads : (all : List Placed) → IsAfter octets (all ++ at ∷ []) c.next.new.self.cursor → DraftsRow octets all row (objects c.row.new.self.draft) c.row.new.self.tokens.cursor =
           λ all stands. c.in_ok-row.ensures.read octets all at key.is stands in
           drafts-row-more (objects c.loop-rows.self.draft) (objects c.row.new.self.draft) rows.keys.items c.push.new.self.keys.items rows.values.items c.push.new.self.values.items row at
           c.in_ok-push.ensures.keys c.in_ok-push.ensures.values c.loop-rows.invariant.even kept (c.loop-rows.invariant.read octets h) (key.stands octets) reads;
@@ -56,7 +56,7 @@ returns-clause-read c octets h =
     let new = objects c.put_table.new.draft in
     let keys = rows.keys.items in
     let values = rows.values.items in
-    let ends : (all : List Placed) → StandsBehind octets all c.loop-rows.self.tokens.cursor → HasTokens octets all = λ all stands.
+    let ends : (all : List Placed) → IsAfter octets all c.loop-rows.self.tokens.cursor → HasTokens octets all = λ all stands.
     let found : HasTokens octets all = rw c.in_default.is at (c.in_ok-key.ensures.ends octets all stands) in found in
     IfOk-weaker c.put_table.result (Puts old new (holds_table keys values)) (λ top. DraftsText octets top new)
     (λ number put. rows-draft old new keys values number (c.loop-rows.invariant.read octets h) ends put) c.put_table.ensures.put

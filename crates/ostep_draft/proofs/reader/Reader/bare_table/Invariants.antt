@@ -4,7 +4,7 @@ use Rattle.plist_value.specs.Plist.{Pairs}
 use Rattle.plist_value.specs.Limits.{nodes_of_pairs, depth_of_pairs}
 use Rattle.plist_draft.specs.View.{objects}
 use Rattle.ostep_lex.specs.Lexeme.{Lexeme}
-use Rattle.ostep_lex.specs.Cursor.{ahead, StandsBehind}
+use Rattle.ostep_lex.specs.Cursor.{ahead, IsAfter}
 use Rattle.ostep_text.specs.Phrase.{RowsPhrase}
 use Rattle.ostep_draft.specs.Drafted.{DraftsRows}
 use Rattle.ostep_draft.specs.Left.{AreLeft}
@@ -19,7 +19,7 @@ abbrev pub invariant-loop-rows : goal.invariant-loop-rows
 invariant-loop-rows l =
     record {
       even : length l.rows.keys.items ≡ length l.rows.values.items;
-      read : (octets : List ℕ) → StandsBehind octets [] l.initial.self.tokens.cursor
+      read : (octets : List ℕ) → IsAfter octets [] l.initial.self.tokens.cursor
           → DraftsRows octets [] [] l.rows.keys.items l.rows.values.items (objects l.self.draft) l.self.tokens.cursor;
       found : (octets : List ℕ) (tokens : List Lexeme) → AreLeft octets l.initial.self.tokens.cursor tokens → (rows : Pairs) → RowsPhrase tokens rows []
           → (spare : ℕ) → Allows 511 l.initial.self.left (depth_of_pairs rows) (nodes_of_pairs rows) spare

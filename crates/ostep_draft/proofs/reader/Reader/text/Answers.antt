@@ -1,5 +1,5 @@
 use Rattle.std.proofs.Common.{sym, subst, ◌∙◌}
-use Rattle.plist_draft.specs.Told.{SpellsIn}
+use Rattle.plist_draft.specs.Encoded.{SpellsIn}
 use Rattle.plist_draft.specs.View.{objects}
 use Rattle.plist_value.specs.Limits.{nodes, depth}
 use Rattle.plist_value.specs.declared.TheConstants.{MAX_DEPTH}

@@ -1,19 +1,19 @@
 use Rattle.std.proofs.Common.{◌∷◌, ◌++◌, []}
 use Rattle.ostep_lex.specs.Lexeme.{placed}
 use Rattle.ostep_lex.specs.Lexing.{HasTokens}
-use Rattle.ostep_lex.specs.Cursor.{StandsBehind}
+use Rattle.ostep_lex.specs.Cursor.{IsAfter}
 use Rattle.ostep_draft.proofs.LeftSteps.{first-left, none-left, lexer-lacks}
 use Rattle.ostep_draft.proofs.tokens.Tokens.expect_mark.Goals as goal
 
 pub returns-in-Some-clause-read : goal.returns-in-Some-clause-read
 returns-in-Some-clause-read c octets tokens h =
-    let behind : StandsBehind octets (tokens ++ placed c.in-Some.token ∷ []) c.in-Some.behind = rw c.in-Some.is at (c.next_mark.ensures.some octets tokens h) in
+    let behind : IsAfter octets (tokens ++ placed c.in-Some.token ∷ []) c.in-Some.behind = rw c.in-Some.is at (c.next_mark.ensures.some octets tokens h) in
     behind
 
 pub returns-in-Some-clause-found : goal.returns-in-Some-clause-found
 returns-in-Some-clause-found c octets tokens l some =
     first-left (placed c.in-Some.token) l (λ all h.
-    let behind : StandsBehind octets (all ++ placed c.in-Some.token ∷ []) c.in-Some.behind = rw c.in-Some.is at (c.next_mark.ensures.some octets all h) in behind)
+    let behind : IsAfter octets (all ++ placed c.in-Some.token ∷ []) c.in-Some.behind = rw c.in-Some.is at (c.next_mark.ensures.some octets all h) in behind)
 
 pub returns-in_err-token-clause-found : goal.returns-in_err-token-clause-found
 returns-in_err-token-clause-found c octets tokens l some =
@@ -21,13 +21,13 @@ returns-in_err-token-clause-found c octets tokens l some =
 
 pub returns-in-Some-2-clause-read : goal.returns-in-Some-2-clause-read
 returns-in-Some-2-clause-read c octets tokens h =
-    let behind : StandsBehind octets (tokens ++ placed c.in-Some-2.token ∷ []) c.in-Some-2.behind = rw c.in-Some-2.is at (c.in_ok-token.ensures.ok octets tokens h) in
+    let behind : IsAfter octets (tokens ++ placed c.in-Some-2.token ∷ []) c.in-Some-2.behind = rw c.in-Some-2.is at (c.in_ok-token.ensures.ok octets tokens h) in
     behind
 
 pub returns-in-Some-2-clause-found : goal.returns-in-Some-2-clause-found
 returns-in-Some-2-clause-found c octets tokens l some =
     first-left (placed c.in-Some-2.token) l (λ all h.
-    let behind : StandsBehind octets (all ++ placed c.in-Some-2.token ∷ []) c.in-Some-2.behind = rw c.in-Some-2.is at (c.in_ok-token.ensures.ok octets all h) in behind)
+    let behind : IsAfter octets (all ++ placed c.in-Some-2.token ∷ []) c.in-Some-2.behind = rw c.in-Some-2.is at (c.in_ok-token.ensures.ok octets all h) in behind)
 
 pub returns-in-None-clause-found : goal.returns-in-None-clause-found
 returns-in-None-clause-found c octets tokens l some =

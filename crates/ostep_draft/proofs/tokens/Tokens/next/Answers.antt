@@ -2,7 +2,7 @@ use Rattle.std.proofs.Common.{◌∷◌, ◌++◌, [], refl}
 use Rattle.ostep_lex.specs.Lexeme.{placed, text as string}
 use Rattle.plist_value.specs.Texts.{units_of}
 use Rattle.ostep_lex.specs.Lexing.{HasTokens}
-use Rattle.ostep_lex.specs.Cursor.{AddsToken, StandsBehind}
+use Rattle.ostep_lex.specs.Cursor.{AddsToken, IsAfter}
 use Rattle.ostep_draft.proofs.LeftSteps.{first-left, added-left, none-left, lexer-lacks}
 use Rattle.ostep_draft.proofs.tokens.Tokens.next.Goals as goal
 
@@ -20,14 +20,14 @@ returns-in-Some-2-clause-read c = record {
   token = placed c.in-Some-2.token;
   is = refl;
   stands = λ octets tokens h.
-      let behind : StandsBehind octets (tokens ++ placed c.in-Some-2.token ∷ []) c.in-Some-2.behind = rw c.in-Some-2.is at (c.in_ok-token.ensures.ok octets tokens h) in
+      let behind : IsAfter octets (tokens ++ placed c.in-Some-2.token ∷ []) c.in-Some-2.behind = rw c.in-Some-2.is at (c.in_ok-token.ensures.ok octets tokens h) in
       behind;
 }
 
 pub returns-in-Some-2-clause-found : goal.returns-in-Some-2-clause-found
 returns-in-Some-2-clause-found c octets tokens l =
     first-left (placed c.in-Some-2.token) l (λ all h.
-    let behind : StandsBehind octets (all ++ placed c.in-Some-2.token ∷ []) c.in-Some-2.behind = rw c.in-Some-2.is at (c.in_ok-token.ensures.ok octets all h) in behind)
+    let behind : IsAfter octets (all ++ placed c.in-Some-2.token ∷ []) c.in-Some-2.behind = rw c.in-Some-2.is at (c.in_ok-token.ensures.ok octets all h) in behind)
 
 pub returns-in-None-clause-found : goal.returns-in-None-clause-found
 returns-in-None-clause-found c octets tokens l =

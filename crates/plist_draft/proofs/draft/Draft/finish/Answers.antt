@@ -15,12 +15,12 @@ pub returns-clause-file : goal.returns-clause-file
 returns-clause-file c = is_file (goal.at.returns-clause-file c).After-are_octets
 
 pub returns-clause-spells : goal.returns-clause-spells
-returns-clause-spells c = λ v valid fits told.
+returns-clause-spells c = λ v valid fits encoded.
     let short = rw c.deref.ensures.value at c.in_ok-put_places.ensures.fit in
     let whole = ap length c.deref-2.ensures.value in
     let octets = rw c.deref-2.ensures.value at c.are_octets.ensures in
     let long : length c.put_trailer.new.out.items < 18446744073709551616 = omega (arith, c.deref-2.type_inv, whole) in
-    finished _ _ _ c.args.top v c.args.self.laid short long (is_file (goal.at.returns-clause-spells c).After-are_octets) octets valid fits told
+    finished _ _ _ c.args.top v c.args.self.laid short long (is_file (goal.at.returns-clause-spells c).After-are_octets) octets valid fits encoded
 
 pub returns-clause-shows : goal.returns-clause-shows
 returns-clause-shows c = λ within.

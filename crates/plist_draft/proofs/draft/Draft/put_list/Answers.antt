@@ -23,7 +23,7 @@ returns-clause-put c = (puts (goal.at.returns-clause-put c).After-push_reserved)
 
 pub returns-clause-spells : goal.returns-clause-spells
 returns-clause-spells c =
-    λ vs told. spells-list _ _ _ _ c.in_ok-number.number c.in_ok-number.ensures.next c.args.items.now vs (puts (goal.at.returns-clause-spells c).After-push_reserved) told
+    λ vs encoded. spells-list _ _ _ _ c.in_ok-number.number c.in_ok-number.ensures.next c.args.items.now vs (puts (goal.at.returns-clause-spells c).After-push_reserved) encoded
 
 pub returns-clause-kept : goal.returns-clause-kept
 returns-clause-kept c = (puts (goal.at.returns-clause-kept c).After-push_reserved).keeps

@@ -23,7 +23,7 @@ returns-clause-put c = (puts (goal.at.returns-clause-put c).After-push_reserved)
 
 pub returns-clause-spells : goal.returns-clause-spells
 returns-clause-spells c =
-    λ rows ps moved told. spells-table _ _ _ _ c.in_ok-number.number c.in_ok-number.ensures.next c.args.keys.now c.args.values.now rows ps (puts (goal.at.returns-clause-spells c).After-push_reserved) moved told
+    λ rows ps moved encoded. spells-table _ _ _ _ c.in_ok-number.number c.in_ok-number.ensures.next c.args.keys.now c.args.values.now rows ps (puts (goal.at.returns-clause-spells c).After-push_reserved) moved encoded
 
 pub returns-clause-kept : goal.returns-clause-kept
 returns-clause-kept c = (puts (goal.at.returns-clause-kept c).After-push_reserved).keeps

@@ -4,7 +4,7 @@ use Rattle.plist_object.specs.Objects.{holds_scalar}
 use Rattle.plist_object.specs.Spelling.{scalar_spelling}
 use Rattle.plist_value.specs.Scalars.{content_of}
 use Rattle.plist_draft.specs.Stored.{StandsAgain, helds_at}
-use Rattle.plist_draft.specs.Told.{Tells}
+use Rattle.plist_draft.specs.Encoded.{HasContent}
 use Rattle.plist_draft.proofs.Storing.{PutsHeld, puts_held, spells-scalar, held-again}
 use Rattle.plist_draft.proofs.draft.Draft.share_scalar.Goals as goal
 use Rattle.plist_draft.proofs.draft.Draft.share_scalar.Goals.{After-push_reserved}
@@ -26,7 +26,7 @@ returns-in-Some-clause-spells c =
     let behind : c.split_at.result.1.now ≡ spelled = c.split_at.ensures.back ∙ ap (drop c.in_ok-number.place) c.deref.ensures.value ∙ back in
     let again : StandsAgain octets c.begin.new.self.places.items c.in-Some.known spelled = rw (before, behind, c.deref-2.ensures.value) at c.in-Some.ensures in
     let kept : c.truncate.new.self.items ≡ octets = c.truncate.ensures.items ∙ front in
-    subst (λ xs. Tells (helds_at xs c.begin.new.self.places.items) c.in-Some.known (holds_scalar (content_of c.args.scalar.now))) (sym kept)
+    subst (λ xs. HasContent (helds_at xs c.begin.new.self.places.items) c.in-Some.known (holds_scalar (content_of c.args.scalar.now))) (sym kept)
     (held-again octets c.begin.new.self.places.items c.in-Some.known (content_of c.args.scalar.now) c.requires c.in_ok-spell.ensures.small again)
 
 pub invariant_of-self-2 : goal.invariant_of-self-2

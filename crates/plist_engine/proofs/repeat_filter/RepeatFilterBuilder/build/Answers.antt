@@ -1,10 +1,10 @@
 use Rattle.std.proofs.Common.{ℕ, List, length, subst}
-use Rattle.plist_engine.specs.RepeatFilter.{AreMetAgain}
+use Rattle.plist_engine.specs.RepeatFilter.{AreSeenAgain}
 use Rattle.plist_engine.proofs.Added.{added-filter}
 use Rattle.plist_engine.proofs.repeat_filter.RepeatFilterBuilder.build.Goals as goal
 
 pub returns : goal.returns
 returns c = λ f i added.
     let again = c.in_ok-again.again in
-    let met = subst (λ (bits : List ℕ). AreMetAgain (length bits) bits again) c.deref.ensures.value c.in_ok-again.ensures in
-    added-filter f i c.args.self again added met
+    let seen = subst (λ (bits : List ℕ). AreSeenAgain (length bits) bits again) c.deref.ensures.value c.in_ok-again.ensures in
+    added-filter f i c.args.self again added seen

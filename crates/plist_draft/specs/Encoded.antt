@@ -7,43 +7,43 @@ use Rattle.plist_object.specs.Layout.{trailer_of}
 use Rattle.plist_object.specs.Objects.{Held, holds_scalar, holds_list, holds_table}
 use Rattle.plist_object.specs.Places.{Holds}
 
--- The object i encodes the value, if `Tells i held` means that the object i has this content. A
+-- The object i encodes the value, if `HasContent i held` means that the object i has this content. A
 -- dictionary has its entries in any order.
 abbrev mutual
   pub SpellsBy : (ℕ → Held → Type 0) → ℕ → Plist → Type 0
-  SpellsBy Tells i (scalar s) = Tells i (holds_scalar s)
-  SpellsBy Tells i (list vs) = (refs : List ℕ) × (Tells i (holds_list refs) × SpellItemsBy Tells refs vs)
-  SpellsBy Tells i (table ps) =
-      (keys : List ℕ) × ((values : List ℕ) × ((rows : List (ℕ × ℕ)) × (Tells i (holds_table keys values) × (IsPermutation (zip keys values) rows × SpellPairsBy Tells rows ps))))
+  SpellsBy HasContent i (scalar s) = HasContent i (holds_scalar s)
+  SpellsBy HasContent i (list vs) = (refs : List ℕ) × (HasContent i (holds_list refs) × SpellItemsBy HasContent refs vs)
+  SpellsBy HasContent i (table ps) =
+      (keys : List ℕ) × ((values : List ℕ) × ((rows : List (ℕ × ℕ)) × (HasContent i (holds_table keys values) × (IsPermutation (zip keys values) rows × SpellPairsBy HasContent rows ps))))
 
   -- the references encode the items in order
   pub SpellItemsBy : (ℕ → Held → Type 0) → List ℕ → Items → Type 0
-  SpellItemsBy Tells refs no_items = refs ≡ []
-  SpellItemsBy Tells [] (item v vs) = ⊥
-  SpellItemsBy Tells (i ∷ refs) (item v vs) = SpellsBy Tells i v × SpellItemsBy Tells refs vs
+  SpellItemsBy HasContent refs no_items = refs ≡ []
+  SpellItemsBy HasContent [] (item v vs) = ⊥
+  SpellItemsBy HasContent (i ∷ refs) (item v vs) = SpellsBy HasContent i v × SpellItemsBy HasContent refs vs
 
   -- the references of each row encode a key and its value, in order
   pub SpellPairsBy : (ℕ → Held → Type 0) → List (ℕ × ℕ) → Pairs → Type 0
-  SpellPairsBy Tells rows no_pairs = rows ≡ []
-  SpellPairsBy Tells [] (pair key v ps) = ⊥
-  SpellPairsBy Tells (row ∷ rows) (pair key v ps) =
-      Tells row.0 (holds_scalar (text key)) × SpellsBy Tells row.1 v × SpellPairsBy Tells rows ps
+  SpellPairsBy HasContent rows no_pairs = rows ≡ []
+  SpellPairsBy HasContent [] (pair key v ps) = ⊥
+  SpellPairsBy HasContent (row ∷ rows) (pair key v ps) =
+      HasContent row.0 (holds_scalar (text key)) × SpellsBy HasContent row.1 v × SpellPairsBy HasContent rows ps
 
 -- the object i of these objects has this content
-abbrev pub Tells : List Held → ℕ → Held → Type 0
-Tells helds i held = slice_get helds i ≡ Some held
+abbrev pub HasContent : List Held → ℕ → Held → Type 0
+HasContent helds i held = slice_get helds i ≡ Some held
 
 -- among these objects, object i encodes the value
 abbrev pub SpellsIn : List Held → ℕ → Plist → Type 0
-SpellsIn helds = SpellsBy (Tells helds)
+SpellsIn helds = SpellsBy (HasContent helds)
 
 -- among these objects, those that the references point to encode the items in order
 abbrev pub SpellItemsIn : List Held → List ℕ → Items → Type 0
-SpellItemsIn helds = SpellItemsBy (Tells helds)
+SpellItemsIn helds = SpellItemsBy (HasContent helds)
 
 -- among these objects, those that the rows point to encode the keys and values in order
 abbrev pub SpellPairsIn : List Held → List (ℕ × ℕ) → Pairs → Type 0
-SpellPairsIn helds = SpellPairsBy (Tells helds)
+SpellPairsIn helds = SpellPairsBy (HasContent helds)
 
 -- whatever the old objects encode, the new ones encode under the same numbers
 pub record Keeps (old new : List Held) : Type 0 where
@@ -54,4 +54,4 @@ pub record Keeps (old new : List Held) : Type 0 where
 -- the file contains each of the objects under its number, and this one is at its top
 pub record Shows (f : List ℕ) (top : ℕ) (helds : List Held) : Type 0 where
   pub topmost : (trailer_of f).top ≡ top
-  pub holds : (i : ℕ) (held : Held) → Tells helds i held → Holds f i held
+  pub holds : (i : ℕ) (held : Held) → HasContent helds i held → Holds f i held

@@ -1,12 +1,12 @@
 use Rattle.std.proofs.Common.{ℕ, ◌<◌}
 use Rattle.std.specs.Prelude.{slice_index}
 use Rattle.plist_engine.specs.Bits.{HasBit}
-use Rattle.plist_engine.specs.RepeatFilter.{AreMetAgain}
-use Rattle.plist_engine.proofs.repeat_filter.met_again.Given as goal
+use Rattle.plist_engine.specs.RepeatFilter.{AreSeenAgain}
+use Rattle.plist_engine.proofs.repeat_filter.seen_again.Given as goal
 
 -- the bits so far are set in `once`, and those that were there before in `again` too
 abbrev pub invariant-loop-bit : goal.invariant-loop-bit
 invariant-loop-bit l = record {
   once : (k : ℕ) → k < l.bit-index → HasBit l.once (slice_index l.bits k);
-  again : AreMetAgain l.bit-index l.bits l.again;
+  again : AreSeenAgain l.bit-index l.bits l.again;
 }

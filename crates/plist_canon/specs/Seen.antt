@@ -10,14 +10,14 @@ use Rattle.plist_engine.specs.declared.scalars.Scalars.{Scalars}
 use Rattle.plist_engine.specs.declared.repeat_filter.RepeatFilter.{RepeatFilter}
 
 -- whether an equal scalar was seen
-abbrev pub was_met : {S H : Type 0} → Scalars S H → ScalarRef → Bool
-was_met met r = is_some (number_stored met r)
+abbrev pub was_seen : {S H : Type 0} → Scalars S H → ScalarRef → Bool
+was_seen seen r = is_some (number_stored seen r)
 
 -- an object before i that may repeat another contains the scalar
 abbrev pub IsHeldBefore : RepeatFilter → List ℕ → ℕ → Scalar → Type 0
 IsHeldBefore filter f i s = (earlier : ℕ) × ((earlier < i) × (MayRepeat filter earlier × HoldsIt f earlier s))
 
 -- the scalars of such objects, and no others, were seen
-pub record HasMet {S H : Type 0} (filter : RepeatFilter) (f : List ℕ) (i : ℕ) (met : Scalars S H) : Type 0 where
-  pub numbered : AreNumbered met
-  pub each : (r : ScalarRef) → (was_met met r ≡ true) ↔ IsHeldBefore filter f i (content_of r)
+pub record HasSeen {S H : Type 0} (filter : RepeatFilter) (f : List ℕ) (i : ℕ) (seen : Scalars S H) : Type 0 where
+  pub numbered : AreNumbered seen
+  pub each : (r : ScalarRef) → (was_seen seen r ≡ true) ↔ IsHeldBefore filter f i (content_of r)
