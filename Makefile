@@ -1,4 +1,4 @@
-## make                       proves, builds and runs ./plistconv: about 40 processor minutes the first time
+## make                       proves, builds and runs ./plistconv: 35 to 65 processor minutes the first time
 ## make lib                   builds libplistconv.a and libplistconv.so: 4 processor minutes more
 ## make install               installs the program, commands, man pages, completions and pages (PREFIX=/usr/local DESTDIR=)
 ## make install-lib           installs the C library, its header and a file for pkg-config
@@ -11,7 +11,7 @@
 ## make fuzz [SECONDS=60] [SEED=1]   compares the program with a second reading of the formats
 ## make tools, examples, words, new-user   try the commands in tools/ and the README, the bindings, arguments that are not
 ##                            UTF-8, and what a new user does on a clean checkout
-## make growths, growths-lib, hostile, bench   each allocation refused in turn; what refusals cost; time and memory
+## make growths, growths-lib, hostile, bench   each allocation failing in turn; hostile input; time and memory
 ## make dist, make deb        a tar file, and Debian packages, for machines without the toolchain
 ## make clean                 removes what was built and proved
 PREFIX ?= /usr/local
@@ -78,7 +78,7 @@ SHARE = $(PREFIX)/share
 DOC ?= $(SHARE)/doc/plistconv
 ZSH ?= zsh/site-functions
 
-# (what is built is installed as it is if there is no toolchain; a folder may have blanks and quotes)
+# built: the target, or nothing if it exists and there is no toolchain. given: a variable, quoted for the shell.
 built = $(if $(shell command -v $(RT) 2> /dev/null),$(1),$(filter-out $(wildcard $(1)),$(1)))
 given = $(1)='$(subst ','\'',$($(1)))'
 INSTALL = $(foreach it,DESTDIR PREFIX SHARE DOC ZSH LIBDIR INCLUDEDIR PC_PREFIX VERSION,$(call given,$(it))) scripts/install.sh

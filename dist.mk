@@ -1,5 +1,5 @@
-# What is handed on to machines without the toolchain: `make dist` makes a tar file of all that is installed, `make deb`
-# Debian packages of the same. Both have the same bytes whenever they are made of the same commit.
+# Packages for machines without the toolchain: `make dist` makes a tar file of all that is installed, `make deb` Debian
+# packages of the same files. Packages made from the same commit are identical.
 MULTIARCH := $(shell $(CC) -print-multiarch 2>/dev/null)
 
 .PHONY: dist deb

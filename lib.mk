@@ -1,7 +1,7 @@
 # The C library: `make lib` builds libplistconv.a and libplistconv.so, which export the functions of
 # include/plistconv.h alone; `make install-lib` installs them with the header and a file for pkg-config;
-# `make examples` builds and runs the examples, `make growths-lib` refuses each allocation in turn.
-# The toolchain's C functions stand beside `rt`.
+# `make examples` builds and runs the examples; `make growths-lib` makes each allocation fail in turn. The toolchain's
+# C library is in its folder c/.
 CC ?= cc
 RT_LIBC = $(or $(shell file=$$(dirname "$$(dirname "$$(realpath "$$(command -v $(RT))")")")/c/liblibc_c.a; [ ! -f "$$file" ] || echo "$$file"),\
   $(error there is no c/liblibc_c.a beside the folder of $(RT)))

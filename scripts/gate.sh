@@ -38,7 +38,7 @@ limited() { # SECONDS COMMAND..
 # Succeeds if a tool is installed and runs.
 works() { command -v "$1" > /dev/null && "$@" > /dev/null 2>&1; } # COMMAND WORD..
 
-told() { # STATUS LOG SECONDS NAME: counts and reports a step that has ended
+report() { # STATUS LOG SECONDS NAME: counts and reports a step that has ended
     case $1 in
         0) passed=$((passed + 1)); echo "gate: $4: passed ($3 s)" ;;
         77) echo "gate: $4: skipped" ;;
@@ -55,7 +55,7 @@ told() { # STATUS LOG SECONDS NAME: counts and reports a step that has ended
 step() { # NAME SECONDS COMMAND..: runs one step
     local name=$1 begin=$SECONDS status=0
     limited "${@:2}" > "$work/log" 2>&1 < /dev/null || status=$?
-    told $status "$work/log" $((SECONDS - begin)) "$name"
+    report $status "$work/log" $((SECONDS - begin)) "$name"
 }
 
 # Starts a step in the background; `ended NAME` waits for it.
@@ -74,7 +74,7 @@ ended() { # NAME
         sleep 0.2
     done
     read -r status seconds < "$work/$1.ended"
-    told "$status" "$work/$1.log" "$seconds" "$1"
+    report "$status" "$work/$1.log" "$seconds" "$1"
     return "$status"
 }
 
