@@ -26,7 +26,8 @@
  *   plistconv_check                                         1 to 3, 52, 60
  *   plistconv_line                                          60, and 255 (PLISTCONV_UNTOLD)
  * An input that begins with `bplist` is refused with 1 to 18, any other with 14, 16 to 18 and 20 to 32. An input of
- * more than 4,294,967,295 bytes is refused with 52, and only with that.
+ * more than 4,294,967,295 bytes is refused with 52, and only with that;
+ * plistconv_same refuses it so unless the first input is refused already.
  */
 #ifndef PLISTCONV_H
 #define PLISTCONV_H
@@ -110,7 +111,8 @@ typedef struct {
 } plistconv_finding;
 
 /* The hash key of a call, `key`: 16 bytes with which it hashes scalars (by SipHash), or null for a fixed seed, which
- * is faster. No result depends on the key: the proof is for all keys.
+ * is faster. No file, text, print or comparison depends on the key, and whether a file is canonical does not: the proof
+ * is for all keys. Which of several refusals or broken rules is named may.
  * Scalars can be chosen that collide under the fixed seed, and a call then takes time quadratic in their number: 20
  * seconds for 100,000. So pass a key if the input is untrusted, as in a server: one for the process, from getentropy
  * or the like, kept secret. A key of 16 zeros counts as none. */
@@ -155,14 +157,14 @@ uint8_t plistconv_lint(const uint8_t *octets, size_t count, plistconv_refusal *r
 uint8_t plistconv_check(const uint8_t *octets, size_t count, const uint8_t *key, plistconv_finding *finding,
                         plistconv_refusal *refusal);
 
-/* What plistconv_line returns for a refusal that no call sets. */
+/* What plistconv_line returns for a refusal whose number, unit and place do not belong together. */
 #define PLISTCONV_UNTOLD 255
 
 /* Writes the line of a refusal, without a newline: `PATH: refused 14 DuplicateKey at octet 9`. The path,
  * path[0 .. path_count), is copied unchanged, and *refusal is as a call set it. The buffer and *length are used as by
  * plistconv_canonical.
- * Returns 0; 60; or PLISTCONV_UNTOLD if no call sets such a refusal, for example if its number is 0. Unless it
- * returns 0, *length is 0 and the buffer is unchanged. */
+ * Returns 0; 60; or PLISTCONV_UNTOLD if number, unit and place of the refusal do not belong together, for example if
+ * its number is 0. Unless it returns 0, *length is 0 and the buffer is unchanged. */
 uint8_t plistconv_line(const uint8_t *path, size_t path_count, const plistconv_refusal *refusal,
                        uint8_t *into, size_t room, size_t *length);
 

@@ -5,11 +5,11 @@ below it every definition that it cites, down to the library's, each once, befor
 It writes out/claims.txt and out/claims.html. A row of a table in PROOFS.md is a promise: a sentence | its contract |
 N/M. The contract is names in backticks: `FUNCTION: CLAUSE, CLAUSE` (all its clauses, if it names none), where FUNCTION
 is `fits`, `Whole::new`, `plist_forms::laws::headline` or `laws::{one_value, limits}`, as long as tells it from others;
-or `Fault as Display`, the ghost members of an implementation. N/M are the definitions and lines that it rests on;
---counts writes them there. Sections without a table end the page: `Premises` and `Only tested` have to be among them.
+or `Fault as Display`, the ghost members of an implementation. After a name of functions that no other crate can call
+comes `(private)`. N/M are the definitions and lines that it rests on; --counts writes them there. Sections without a table end the page: `Premises` and `Only tested` have to be among them.
 
-Fails if a name stands for nothing, a function or clause is missing, the premises leave out a crate of the library that
-is cited, or a number in PROOFS.md is not the script's.
+Fails if a name stands for nothing, a function or clause is missing, a private function is not marked so, the premises
+leave out a crate of the library that is cited, or a number in PROOFS.md is not the script's.
 """
 from __future__ import annotations
 
@@ -23,7 +23,7 @@ from claims_page import Page, write_pages
 from claims_terms import Definition, Fault
 from claims_tree import Tree
 
-SPAN = re.compile(r"`([^`\n]+)`")
+SPAN = re.compile(r"`([^`\n]+)`( \(private\))?")
 NAMED = re.compile(r"((?:\w+::)*)(\{[\w, ]+\}|\w+)(?:: (\w+(?:, \w+)*)| as (\w+))?")
 # (fields of the library's types, and of its views of references; then of clap's)
 FIELDS = set("now old new entry exit items keys entries ghost_name".split())
@@ -38,7 +38,7 @@ class Promise:
     line: int
     section: str
     sentence: str
-    names: list[str]
+    names: list[tuple[str, bool]]  # (as PROOFS.md has them, and whether it marks them as private)
     stated: str
     contracts: list[Definition] = field(default_factory=list)
     rests_on: list[str] = field(default_factory=list)  # (keys, each after what it cites)
@@ -52,14 +52,15 @@ def promises(text: str) -> list[Promise]:
             section = line[3:]
         cells = [cell.strip() for cell in line.split(" |")]
         if len(cells) == 3 and not cells[0] == "promise" and not line.startswith("---"):
-            found.append(Promise(number, section, cells[0], SPAN.findall(cells[1]), cells[2]))
+            names = [(name, bool(mark)) for name, mark in SPAN.findall(cells[1])]
+            found.append(Promise(number, section, cells[0], names, cells[2]))
     if not found:
         raise Fault("PROOFS.md has no promise")
     return found
 
 
-def contracts(tree: Tree, named: str) -> list[Definition]:
-    """Returns the contracts that a name in PROOFS.md stands for."""
+def contracts(tree: Tree, named: str, is_private: bool) -> list[Definition]:
+    """Returns the contracts that a name in PROOFS.md stands for. Functions are private exactly if it says so."""
     match = NAMED.fullmatch(named)
     if match is None:
         raise Fault(f"`{named}` does not name a contract")
@@ -67,7 +68,11 @@ def contracts(tree: Tree, named: str) -> list[Definition]:
     if match[4]:
         return [implemented(tree, path, match[2], match[4])]
     wanted = (match[3] or "").split(", ") if match[3] else []
-    return [of_function(tree, function(tree, path, name), wanted) for name in re.findall(r"\w+", match[2])]
+    items = [function(tree, path, name) for name in re.findall(r"\w+", match[2])]
+    for item in items:
+        if item.is_public == is_private:
+            raise Fault(f"{item.name} is {'not ' if is_private else ''}private")
+    return [of_function(tree, item, wanted) for item in items]
 
 
 def function(tree: Tree, path: list[str], name: str) -> rust.Item:
@@ -155,7 +160,7 @@ def explain(tree: Tree, found: list[Promise]) -> None:
     for promise in found:
         order = Order(tree)
         try:
-            promise.contracts = [made for name in promise.names for made in contracts(tree, name)]
+            promise.contracts = [made for name in promise.names for made in contracts(tree, *name)]
             for contract in promise.contracts:
                 for key in tree.cited(contract):
                     order.add(key)

@@ -30,7 +30,7 @@ class Item:
     first: int  # (the line that it begins at, from 0, without its comments)
     last: int
     head: str
-    is_public: bool = False
+    is_public: bool = False  # (other crates may name it)
     trait: str = ""  # (of an implementation: which)
     owner: "Item | None" = None  # (of a method: its implementation or trait)
 
@@ -89,7 +89,7 @@ def item_at(file: RustFile, at: int, match: re.Match[str]) -> Item:
         ends = re.compile(r"\}" if kind in ("fn", "impl", "trait") else r"[}\])]+;?$")
         last = next((end for end in range(at + 1, len(lines)) if ends.match(lines[end]) or lines[end] == "{}"), at)
     head = "\n".join(lines[at:last + 1]).partition(" {\n")[0].partition("\n{")[0]
-    item = Item(kind, match["name"], file, at, last, head, bool(match["visible"]))
+    item = Item(kind, match["name"], file, at, last, head, match["visible"] == "pub ")
     if kind == "impl":
         found = IMPL.match(head)
         if found is None:
@@ -105,7 +105,7 @@ def methods(owner: Item) -> list[Item]:
         if match := METHOD.match(lines[at]):
             last = next(end for end in range(at, owner.last + 1) if lines[end].startswith("    }")
                         or owner.kind == "trait" and lines[end].endswith(";"))
-            found.append(Item("fn", match["name"], owner.file, at, last, "", bool(match["visible"]) or bool(owner.trait)
+            found.append(Item("fn", match["name"], owner.file, at, last, "", match["visible"] == "pub " or bool(owner.trait)
                               or owner.kind == "trait" and owner.is_public, owner=owner))
     return found
 

@@ -1,5 +1,5 @@
 #!/usr/bin/env python3
-"""scripts/docs.py: checks the pages against the repository, and the language of pages and comments.
+"""scripts/docs.py: checks the pages against the repository: links, names, numbers.
 
 A span in backticks is checked if its form tells what it is:
 - a path (`fuzz/rows.py`, `plist_value/specs/Limits.antt`, `crates/rows`): the file or folder exists. The path of a
@@ -20,10 +20,7 @@ Besides:
 - CHANGELOG.md has the version of the program, which is also that of the man page, the header and the packages;
 - docs/RECIPES.md and the man page plistconv-tools.1 name each command in tools/;
 - CONTRIBUTING.md, Makefile and build.mk state the same cost of the first `make`;
-- docs/BENCHMARKS.md names the commit that was measured;
-- the pages have at most 10,500 words together, and no page more than 3,500, as counted by `wc -w`;
-- neither the pages nor the comments of the crates in PLAIN have a word of UNPLAIN outside of backticks, and these
-  comments have no sentence of more than 35 words.
+- docs/BENCHMARKS.md names the commit that was measured.
 Fails if anything is stale.
 """
 import re
@@ -32,22 +29,13 @@ from pathlib import Path
 
 TOP = Path(__file__).resolve().parent.parent
 CRATES = TOP / "crates"
-PAGES = sorted([*TOP.glob("*.md"), *TOP.glob("docs/*.md")])
-BINDINGS = sorted(TOP.glob("bindings/**/*.md"))  # pages of a language, whose words are not counted
-MOST_WORDS, MOST_OF_A_PAGE = 10_500, 3_500
+PAGES = sorted([*TOP.glob("*.md"), *TOP.glob("docs/*.md"), *TOP.glob("bindings/**/*.md")])
 TESTS = {"plist_tests", "test_files", "rows"}  # crates that the graph leaves out
 SPAN = re.compile(r"`([^`\n]+)`")
 LINK = re.compile(r"\]\(([^)#:]*)(?:#([\w-]+))?\)")
 PATH = re.compile(r"[\w.-]+(/[\w.-]*)+")
 STAND_IN = re.compile(r"\b[A-Z]{2,}\b(?!\.)")
 NAMED = re.compile(r"((?:\w+::)*)(\{[\w, ]+\}|\w+)(?:: (\w+(?:, \w+)*))?")
-# The crates whose comments are checked for plain English. Extend them.
-PLAIN = ("plist_devices", "plist_canon", "ostep_text", "plist_forms", "plistconv_c", "rows", "test_files", "plist_tests",
-         "plist_binary", "plistconv", "plist_object", "plist_engine", "plist_value",
-         "plist_draft", "ostep_draft", "plist_explain", "plist_convert",
-         "ostep_lex", "plist_print", "ostep_write")
-UNPLAIN = re.compile(r"\b([Ss]o many|[Bb]ehind|[Ss]tands?|[Oo]f late|[Ww]ant of memory|[Ww]hite|The same|As of|Those of)\b")
-MOST_OF_A_SENTENCE = 35
 
 
 def declared():
@@ -271,91 +259,15 @@ def tool_faults():
         yield from (f"{name}: no command {tool.name}" for name, page in pages.items() if tool.name not in page)
 
 
-def word_faults():
-    """Yields the pages that are too long, alone or together."""
-    words = {page.name: len(page.read_text(encoding="utf-8").split()) for page in PAGES}
-    yield from (f"{name}: {many} words, at most {MOST_OF_A_PAGE}" for name, many in words.items() if many > MOST_OF_A_PAGE)
-    if sum(words.values()) > MOST_WORDS:
-        yield f"the pages have {sum(words.values())} words, at most {MOST_WORDS}"
-
-
-def comments(file, text):
-    """Returns the comments of a file, each with its line and its text. Consecutive lines are one comment."""
-    if file.suffix == ".h":
-        found = ((text.count("\n", 0, match.start()) + 1, match[1]) for match in re.finditer(r"(?s)/\*(.*?)\*/", text))
-        return [(number, re.sub(r"(?m)^ \* ?", "", comment)) for number, comment in found]
-    mark = re.compile(r"(\s*)(--)(?: (.*))?" if file.suffix == ".antt" else r"(\s*)(//[/!]?)(?: (.*))?")
-    found, before = [], None
-    for number, line in enumerate(text.splitlines(), 1):
-        match = mark.fullmatch(line)
-        kind = match and (match[1], match[2])
-        if match and kind == before:
-            found[-1][1].append(match[3] or "")
-        elif match:
-            found.append((number, [match[3] or ""]))
-        before = kind
-    return [(number, "\n".join(lines)) for number, lines in found]
-
-
-def sentences(text):
-    """Yields the sentences of a comment. Items, paragraphs and rows of tables end sentences too."""
-    for part in re.split(r"\n(?=- |#|.*\S {3,}\S)|\n\n", re.sub(r"`[^`]*`", "x", text)):
-        yield from re.split(r"(?<=[.!?])\s+(?=[A-Z0-9x\[])", part)
-
-
-def comment_faults(file, text):
-    """Yields what is not plain English in the comments of a file."""
-    name = file.relative_to(TOP)
-    for number, comment in comments(file, text):
-        for word in UNPLAIN.findall(re.sub(r"`[^`]*`|\n", " ", comment)):
-            yield f"{name}:{number}: the words `{word}`"
-        for sentence in sentences(comment):
-            if (many := len(sentence.split())) > MOST_OF_A_SENTENCE:
-                yield f"{name}:{number}: a sentence of {many} words, at most {MOST_OF_A_SENTENCE}"
-
-
-def plain_faults():
-    """Yields what is not plain English in the pages, and in the comments of the crates in PLAIN."""
-    for page in PAGES + BINDINGS:
-        for number, line in enumerate(page.read_text(encoding="utf-8").splitlines(), 1):
-            for word in () if line.startswith("    ") else UNPLAIN.findall(re.sub(r"`[^`]*`", "", line)):
-                yield f"{page.name}:{number}: the words `{word}`"
-    files = [file for crate in PLAIN for kind in ("rt", "antt") for file in (CRATES / crate).rglob(f"*.{kind}")
-             if "out" not in file.relative_to(CRATES).parts]
-    for file in [*sorted(files), TOP / "include/plistconv.h"]:
-        yield from comment_faults(file, file.read_text(encoding="utf-8"))
-
-
-def tried():
-    """Returns whether the checks find what is wrong in made-up pages and comments, and nothing else."""
-    page = TOP / "docs" / "PROOFS.md"
-    right = "`plist_value` `make test` `fuzz/rows.py` `laws::headline` `crates/NAME/gone` `fits: limits` `a/b`"
-    wrong = "`plist_gone` `make gone` `fuzz/gone.py` `laws::gone` `fits: gone` `Gone.antt` `put_gone` [it](gone.md) [it](#gone)"
-    crates = [crate for crate in USES if crate not in TESTS]
-    lines = [f"    {crate} → {', '.join(low for low in USES[crate] if low in USES)}\n" for crate in crates]
-    whole = "".join(line for line in lines if not line.endswith("→ \n"))
-    return (
-        not list(page_faults(page, right))
-        and len(list(page_faults(page, wrong))) == 9
-        and not list(graph_faults(whole))
-        and list(graph_faults(whole.partition("\n")[2])) != []
-        and len(list(layer_faults("    top    plistconv, plist_value\n"))) >= len(crates)
-        and not list(comment_faults(CRATES / "a.rt", "/// Returns `behind`. It stood.\nlet behind = white;\n"))
-        and len(list(comment_faults(CRATES / "a.rt", "// So many\n// stand behind it.\nx\n//! The same.\n"))) == 4
-        and len(list(comment_faults(CRATES / "a.antt", "  -- It has" + " words" * 34 + ".\n  -- And these.\n"))) == 1
-        and len(list(comment_faults(CRATES / "a.h", "/* Want of\n * memory. */\n#define A white /* white */\n"))) == 2
-    )
-
-
 def main():
-    faults = [] if tried() else ["docs.py does not find what is stale"]
-    for page in PAGES + BINDINGS:
+    faults = []
+    for page in PAGES:
         faults += page_faults(page, page.read_text(encoding="utf-8"))
     faults += [*graph_faults(read("README.md")), *layer_faults(read("docs/ARCHITECTURE.md"))]
-    faults += [*number_faults(), *version_faults(), *tool_faults(), *cost_faults(), *word_faults(), *plain_faults()]
+    faults += [*number_faults(), *version_faults(), *tool_faults(), *cost_faults()]
     if not re.search(r"commit [0-9a-f]{7,}", read("docs/BENCHMARKS.md")):
         faults.append("BENCHMARKS.md: it does not name the commit that was measured")
-    print("\n".join([*faults, f"{len(PAGES + BINDINGS)} pages, {len(faults)} faults"]))
+    print("\n".join([*faults, f"{len(PAGES)} pages, {len(faults)} faults"]))
     sys.exit(1 if faults else 0)
 
 
