@@ -55,7 +55,8 @@ pub record IsAfter (octets : List ℕ) (tokens : List Placed) (cursor : Cursor) 
 pub record AddsToken (lexeme : Lexeme) (old new : Cursor) : Type 0 where
   pub token : Placed
   pub is : token.lexeme ≡ lexeme
-  pub stands : (octets : List ℕ) (tokens : List Placed) → IsAfter octets tokens old → IsAfter octets (tokens ++ token ∷ []) new
+  pub stands : (octets : List ℕ) (tokens : List Placed) → IsAfter octets tokens old
+      → IsAfter octets (tokens ++ token ∷ []) new
 
 -- whether the text begins with the character
 abbrev pub begins_with : ℕ → List ℕ → Bool
@@ -63,7 +64,8 @@ begins_with c [] = false
 begins_with c (d ∷ rest) = d == c
 
 -- these characters are between the old and the new cursor, a stretch of the class
-pub record PassesStretch (kind : Class) (old : Cursor) (front : List ℕ) (new : Cursor) : Type 0 where
+pub record PassesStretch (kind : Class) (old : Cursor) (front : List ℕ)
+    (new : Cursor) : Type 0 where
   pub stretch : is_stretch 0xD800 kind front ≡ true
   pub text : ahead old ≡ front ++ ahead new
   pub input : SameInput old new

@@ -5,7 +5,11 @@ use Rattle.plist_value.specs.declared.refusals.Place.TheVariants.{Nowhere, Octet
 use Rattle.plist_value.specs.declared.refusals.Refusal.TheVariants as refusal
 use Rattle.plist_value.specs.declared.refusals.Report.{Report}
 use Rattle.ostep_lex.specs.declared.fault.LexFault.{LexFault}
-use Rattle.ostep_lex.specs.declared.fault.LexFault.TheVariants.{BadUtf8, XmlForm, UnexpectedCharacter, UnclosedString, UnclosedComment, BadEscape, OctalRange, OddData, BadData, BadUtf16, OutOfMemory}
+use Rattle.ostep_lex.specs.declared.fault.LexFault.TheVariants.{BadUtf8, XmlForm}
+use Rattle.ostep_lex.specs.declared.fault.LexFault.TheVariants.{UnexpectedCharacter, UnclosedString}
+use Rattle.ostep_lex.specs.declared.fault.LexFault.TheVariants.{UnclosedComment, BadEscape}
+use Rattle.ostep_lex.specs.declared.fault.LexFault.TheVariants.{OctalRange, OddData, BadData}
+use Rattle.ostep_lex.specs.declared.fault.LexFault.TheVariants.{BadUtf16, OutOfMemory}
 
 -- the refusal and its offset; out of memory has none
 abbrev pub report_of : LexFault → Report

@@ -7,7 +7,8 @@ use Rattle.ostep_lex.specs.Character.{slash, star, is_white, is_line_end}
 pub data LineComment : List ℕ → List ℕ → Type 0 where
   text_end : LineComment [] []
   line_end : {c : ℕ} {rest : List ℕ} → is_line_end c ≡ true → LineComment (c ∷ rest) (c ∷ rest)
-  more : {c : ℕ} {rest after : List ℕ} → is_line_end c ≡ false → LineComment rest after → LineComment (c ∷ rest) after
+  more : {c : ℕ} {rest after : List ℕ} → is_line_end c ≡ false → LineComment rest after
+      → LineComment (c ∷ rest) after
 
 -- whether the text begins with the end of a block comment
 abbrev pub closes_comment : List ℕ → Bool
@@ -17,12 +18,14 @@ closes_comment _ = false
 -- after `/*`: up to the first `*/`, which is included
 pub data BlockComment : List ℕ → List ℕ → Type 0 where
   close : {rest : List ℕ} → BlockComment (star ∷ slash ∷ rest) rest
-  more : {c : ℕ} {rest after : List ℕ} → closes_comment (c ∷ rest) ≡ false → BlockComment rest after → BlockComment (c ∷ rest) after
+  more : {c : ℕ} {rest after : List ℕ} → closes_comment (c ∷ rest) ≡ false → BlockComment rest after
+      → BlockComment (c ∷ rest) after
 
 -- after `/*`: no `*/` up to the end of the text
 pub data NeverCloses : List ℕ → Type 0 where
   text_end : NeverCloses []
-  more : {c : ℕ} {rest : List ℕ} → closes_comment (c ∷ rest) ≡ false → NeverCloses rest → NeverCloses (c ∷ rest)
+  more : {c : ℕ} {rest : List ℕ} → closes_comment (c ∷ rest) ≡ false → NeverCloses rest
+      → NeverCloses (c ∷ rest)
 
 -- a whitespace character or a comment
 pub data GapPiece : List ℕ → List ℕ → Type 0 where

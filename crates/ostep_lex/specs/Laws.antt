@@ -10,11 +10,13 @@ use Rattle.ostep_lex.specs.Stands.{Stands}
 
 -- no bytes have two lists of tokens
 abbrev pub OneLexing : Type 0
-OneLexing = (octets : List ℕ) (tokens others : List Placed) → HasTokens octets tokens → HasTokens octets others → tokens ≡ others
+OneLexing = (octets : List ℕ) (tokens others : List Placed) → HasTokens octets tokens
+    → HasTokens octets others → tokens ≡ others
 
 -- bytes with a fault have no tokens
 abbrev pub FaultyHasNone : Type 0
-FaultyHasNone = (octets : List ℕ) (fault : LexFault) → Stands octets fault → ¬ (fault ≡ OutOfMemory) → HasNoTokens octets
+FaultyHasNone = (octets : List ℕ) (fault : LexFault) → Stands octets fault → ¬ (fault ≡ OutOfMemory)
+    → HasNoTokens octets
 
 -- the tokens at the start of the bytes are the first of all their tokens, and the others are in the
 -- rest
@@ -24,10 +26,12 @@ pub record Continues (octets : List ℕ) (tokens all : List Placed) (rest : List
   pub lexes : Lexes (places_of octets) rest others
 
 abbrev pub TokensContinue : Type 0
-TokensContinue = (octets : List ℕ) (tokens all : List Placed) (rest : List ℕ) → BeginsWithTokens octets tokens rest → HasTokens octets all
+TokensContinue = (octets : List ℕ) (tokens all : List Placed) (rest : List ℕ)
+    → BeginsWithTokens octets tokens rest → HasTokens octets all
     → Continues octets tokens all rest
 
 -- Tokens follow one another, with gaps before, between and after them, and the bytes of each span
 -- encode its token.
 abbrev pub SpansSpell : Type 0
-SpansSpell = (octets : List ℕ) (tokens : List Placed) → HasTokens octets tokens → HasSpans octets tokens
+SpansSpell = (octets : List ℕ) (tokens : List Placed) → HasTokens octets tokens
+    → HasSpans octets tokens

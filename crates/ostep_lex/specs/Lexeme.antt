@@ -1,7 +1,10 @@
 -- Tokens and their spans.
-use Rattle.std.specs.Prelude.{◌≡◌, ℕ, true, false, ◌==◌, List, ◌∷◌, Option, Some, None, if◌then◌else◌}
+use Rattle.std.specs.Prelude.{◌≡◌, ℕ, true, false, ◌==◌, List, ◌∷◌, Option, Some, None}
+use Rattle.std.specs.Prelude.{if◌then◌else◌}
 use Rattle.ostep_lex.specs.declared.token.TokenKind.{TokenKind}
-use Rattle.ostep_lex.specs.declared.token.TokenKind.TheVariants.{BraceOpen, BraceClose, ParenOpen, ParenClose, Comma, Semicolon, Equals, Text, Octets as OctetsKind}
+use Rattle.ostep_lex.specs.declared.token.TokenKind.TheVariants.{BraceOpen, BraceClose, ParenOpen}
+use Rattle.ostep_lex.specs.declared.token.TokenKind.TheVariants.{ParenClose, Comma, Semicolon}
+use Rattle.ostep_lex.specs.declared.token.TokenKind.TheVariants.{Equals, Text, Octets as OctetsKind}
 use Rattle.ostep_lex.specs.declared.token.Token.{Token}
 use Rattle.ostep_lex.specs.Character.{less_than, is_run, is_quote}
 use Rattle.ostep_lex.specs.Gap.{begins_comment}
@@ -33,12 +36,15 @@ mark_token c =
 
 -- the text is a token, followed by the last list
 pub data IsToken : List ℕ → Lexeme → List ℕ → Type 0 where
-  mark : {c : ℕ} {lexeme : Lexeme} {rest : List ℕ} → mark_token c ≡ Some lexeme → IsToken (c ∷ rest) lexeme rest
-  run : {c : ℕ} {rest units after : List ℕ} → is_run c ≡ true → begins_comment (c ∷ rest) ≡ false → Run rest units after
+  mark : {c : ℕ} {lexeme : Lexeme} {rest : List ℕ} → mark_token c ≡ Some lexeme
+      → IsToken (c ∷ rest) lexeme rest
+  run : {c : ℕ} {rest units after : List ℕ} → is_run c ≡ true → begins_comment (c ∷ rest) ≡ false
+      → Run rest units after
       → IsToken (c ∷ rest) (text (c ∷ units)) after
   quoted : {c : ℕ} {rest units after : List ℕ} → is_quote c ≡ true → Quoted c rest units after
       → IsToken (c ∷ rest) (text units) after
-  data_token : {rest bytes after : List ℕ} → Octets rest bytes after → IsToken (less_than ∷ rest) (octets bytes) after
+  data_token : {rest bytes after : List ℕ} → Octets rest bytes after
+      → IsToken (less_than ∷ rest) (octets bytes) after
 
 -- a token, with the offset of its first byte and the offset after its last
 pub record Placed : Type 0 where

@@ -12,5 +12,6 @@ pub data OctetsPiece : List ℕ → List ℕ → List ℕ → Type 0 where
 -- after `<`: pieces, and then `>`
 pub data Octets : List ℕ → List ℕ → List ℕ → Type 0 where
   close : {rest : List ℕ} → Octets (greater_than ∷ rest) [] rest
-  piece : {text octets rest more after : List ℕ} → OctetsPiece text octets rest → Octets rest more after
+  piece : {text octets rest more after : List ℕ} → OctetsPiece text octets rest
+      → Octets rest more after
       → Octets text (octets ++ more) after

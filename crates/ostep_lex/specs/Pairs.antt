@@ -1,5 +1,6 @@
 -- Pairs of hexadecimal digits, and the bytes that they encode.
-use Rattle.std.specs.Prelude.{◌≡◌, ℕ, ◌≤◌, ◌+◌, ◌*◌, true, List, [], ◌∷◌, ◌++◌, length, chars, IsUtf8}
+use Rattle.std.specs.Prelude.{◌≡◌, ℕ, ◌≤◌, ◌+◌, ◌*◌, true, List, [], ◌∷◌, ◌++◌, length, chars}
+use Rattle.std.specs.Prelude.{IsUtf8}
 use Rattle.std.specs.Char.{digit_value}
 use Rattle.ostep_lex.specs.Character.{is_hexadecimal}
 use Rattle.ostep_lex.specs.declared.source.Source.{Source}
@@ -13,7 +14,8 @@ pub record IsDigitOf (c value : ℕ) : Type 0 where
 -- pairs of digits, and their bytes
 pub data Pairs : List ℕ → List ℕ → Type 0 where
   none : Pairs [] []
-  more : {c d : ℕ} {digits octets : List ℕ} → is_hexadecimal c ≡ true → is_hexadecimal d ≡ true → Pairs digits octets
+  more : {c d : ℕ} {digits octets : List ℕ} → is_hexadecimal c ≡ true → is_hexadecimal d ≡ true
+      → Pairs digits octets
       → Pairs (c ∷ d ∷ digits) ((digit_value c * 16 + digit_value d) ∷ octets)
 
 -- the text begins with the pair of this byte

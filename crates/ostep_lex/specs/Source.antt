@@ -1,12 +1,14 @@
 -- The representation of an input in the code: the remaining bytes, and their encoding.
-use Rattle.std.specs.Prelude.{◌≡◌, ℕ, ◌+◌, ◌*◌, List, [], ◌∷◌, ◌++◌, map, true, chars, unwrap_or, length, ◌≤◌}
+use Rattle.std.specs.Prelude.{◌≡◌, ℕ, ◌+◌, ◌*◌, List, [], ◌∷◌, ◌++◌, map, true, chars, unwrap_or}
+use Rattle.std.specs.Prelude.{length, ◌≤◌}
 use Rattle.std.specs.Str.{all_scalars}
 use Rattle.std.specs.Char.Utf16.{utf16_chars}
 use Rattle.ostep_lex.specs.declared.source.ByteOrder.{ByteOrder}
 use Rattle.ostep_lex.specs.declared.source.ByteOrder.TheVariants.{Big, Little}
 use Rattle.ostep_lex.specs.declared.source.Source.{Source}
 use Rattle.ostep_lex.specs.declared.source.Source.TheVariants.{Utf8, Utf16}
-use Rattle.ostep_lex.specs.Encoding.{Encoding, utf8, utf16_big, utf16_little, big_endian, little_endian, octets_of}
+use Rattle.ostep_lex.specs.Encoding.{Encoding, utf8, utf16_big, utf16_little, big_endian}
+use Rattle.ostep_lex.specs.Encoding.{little_endian, octets_of}
 
 abbrev pub encoding_by : ByteOrder → Encoding
 encoding_by Big = utf16_big

@@ -6,7 +6,8 @@ use Rattle.ostep_lex.specs.Lexeme.{IsToken, Placed}
 
 -- The bytes from offset `at` on are those of a gap, of the token, which has the offsets that it
 -- states, and other bytes.
-pub record StandsFirst (e : Encoding) (at : ℕ) (octets : List ℕ) (token : Placed) (others : List ℕ) : Type 0 where
+pub record StandsFirst (e : Encoding) (at : ℕ) (octets : List ℕ) (token : Placed)
+    (others : List ℕ) : Type 0 where
   pub gap : List ℕ
   pub piece : List ℕ
   pub after : List ℕ
@@ -20,7 +21,8 @@ pub record StandsFirst (e : Encoding) (at : ℕ) (octets : List ℕ) (token : Pl
 -- the bytes from offset `at` on are gaps and these tokens in order
 abbrev pub StandInTurn : Encoding → ℕ → List ℕ → List Placed → Type 0
 StandInTurn e at octets [] = (gap : List ℕ) × Gap gap [] × (octets ≡ octets_of e gap)
-StandInTurn e at octets (token ∷ tokens) = (others : List ℕ) × StandsFirst e at octets token others × StandInTurn e token.end others tokens
+StandInTurn e at octets (token ∷ tokens) = (others : List ℕ) × StandsFirst e at octets token others
+    × StandInTurn e token.end others tokens
 
 -- the bytes of an input after its byte order mark are gaps and these tokens in order
 pub record HasSpans (octets : List ℕ) (tokens : List Placed) : Type 0 where

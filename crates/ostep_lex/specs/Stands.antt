@@ -1,11 +1,17 @@
 -- The faults of a text. Each relation is between the text at a position and the fault that is found
 -- on reading from there.
-use Rattle.std.specs.Prelude.{◌≡◌, ℕ, ◌<◌, Bool, true, false, ◌||◌, ◌==◌, List, [], ◌∷◌, Some, None, nat_eq, codes}
+use Rattle.std.specs.Prelude.{◌≡◌, ℕ, ◌<◌, Bool, true, false, ◌||◌, ◌==◌, List, [], ◌∷◌, Some, None}
+use Rattle.std.specs.Prelude.{nat_eq, codes}
 use Rattle.std.specs.List.{starts_with}
 use Rattle.ostep_lex.specs.declared.fault.LexFault.{LexFault}
-use Rattle.ostep_lex.specs.declared.fault.LexFault.TheVariants.{BadUtf8, XmlForm, UnexpectedCharacter, UnclosedString, UnclosedComment, BadEscape, OctalRange, OddData, BadData, BadUtf16, OutOfMemory}
+use Rattle.ostep_lex.specs.declared.fault.LexFault.TheVariants.{BadUtf8, XmlForm}
+use Rattle.ostep_lex.specs.declared.fault.LexFault.TheVariants.{UnexpectedCharacter, UnclosedString}
+use Rattle.ostep_lex.specs.declared.fault.LexFault.TheVariants.{UnclosedComment, BadEscape}
+use Rattle.ostep_lex.specs.declared.fault.LexFault.TheVariants.{OctalRange, OddData, BadData}
+use Rattle.ostep_lex.specs.declared.fault.LexFault.TheVariants.{BadUtf16, OutOfMemory}
 use Rattle.ostep_lex.specs.Encoding.{Spells, Places, places_of, place, StopsAt, encoding_of, utf8}
-use Rattle.ostep_lex.specs.Character.{slash, star, less_than, greater_than, backslash, is_white, is_run, is_quote, is_hexadecimal}
+use Rattle.ostep_lex.specs.Character.{slash, star, less_than, greater_than, backslash, is_white}
+use Rattle.ostep_lex.specs.Character.{is_run, is_quote, is_hexadecimal}
 use Rattle.ostep_lex.specs.Digits.{begins_digit, octal_number}
 use Rattle.ostep_lex.specs.Gap.{Gap, NeverCloses}
 use Rattle.ostep_lex.specs.Quoted.{unit_letter, Piece}
@@ -17,15 +23,18 @@ use Rattle.ostep_lex.specs.Lexing.{BeginsWithTokens}
 pub data EscapeFault (p : Places) (start : ℕ) : List ℕ → LexFault → Type 0 where
   cut_escape : EscapeFault p start (backslash ∷ []) (UnclosedString start)
   no_digit : {rest : List ℕ} → begins_digit 16 rest ≡ false
-      → EscapeFault p start (backslash ∷ unit_letter ∷ rest) (BadEscape (place p (backslash ∷ unit_letter ∷ rest)))
+      → EscapeFault p start (backslash ∷ unit_letter ∷ rest)
+        (BadEscape (place p (backslash ∷ unit_letter ∷ rest)))
   too_high : {rest : List ℕ} → begins_digit 8 rest ≡ true → 0x7f < (octal_number rest).value
       → EscapeFault p start (backslash ∷ rest) (OctalRange (place p (backslash ∷ rest)))
 
 -- after a quote at offset start: pieces, and then no end or a faulty escape
 pub data QuotedFault (p : Places) (start mark : ℕ) : List ℕ → LexFault → Type 0 where
   cut_string : QuotedFault p start mark [] (UnclosedString start)
-  escape : {text : List ℕ} {fault : LexFault} → EscapeFault p start text fault → QuotedFault p start mark text fault
-  piece : {text units rest : List ℕ} {fault : LexFault} → Piece mark text units rest → QuotedFault p start mark rest fault
+  escape : {text : List ℕ} {fault : LexFault} → EscapeFault p start text fault
+      → QuotedFault p start mark text fault
+  piece : {text units rest : List ℕ} {fault : LexFault} → Piece mark text units rest
+      → QuotedFault p start mark rest fault
       → QuotedFault p start mark text fault
 
 -- whether whitespace, `>` or a pair of digits may begin with the character
@@ -35,10 +44,12 @@ is_of_data c = is_white c || is_hexadecimal c || (c == greater_than)
 -- after `<`: pieces, and then no end, a character not allowed in data, or a single digit
 pub data OctetsFault (p : Places) : List ℕ → LexFault → Type 0 where
   cut_data : OctetsFault p [] (BadData (place p []))
-  other : {c : ℕ} {rest : List ℕ} → is_of_data c ≡ false → OctetsFault p (c ∷ rest) (BadData (place p (c ∷ rest)))
+  other : {c : ℕ} {rest : List ℕ} → is_of_data c ≡ false
+      → OctetsFault p (c ∷ rest) (BadData (place p (c ∷ rest)))
   odd : {c : ℕ} {rest : List ℕ} → is_hexadecimal c ≡ true → begins_digit 16 rest ≡ false
       → OctetsFault p (c ∷ rest) (OddData (place p (c ∷ rest)))
-  piece : {text octets rest : List ℕ} {fault : LexFault} → OctetsPiece text octets rest → OctetsFault p rest fault
+  piece : {text octets rest : List ℕ} {fault : LexFault} → OctetsPiece text octets rest
+      → OctetsFault p rest fault
       → OctetsFault p text fault
 
 -- whether the character begins whitespace, or a token other than punctuation
@@ -49,27 +60,34 @@ begins_other c = is_white c || is_run c || is_quote c || (c == less_than)
 pub data FaultAt (p : Places) : List ℕ → LexFault → Type 0 where
   unexpected : {c : ℕ} {rest : List ℕ} → mark_token c ≡ None → begins_other c ≡ false
       → FaultAt p (c ∷ rest) (UnexpectedCharacter (place p (c ∷ rest)))
-  comment : {rest : List ℕ} → NeverCloses rest → FaultAt p (slash ∷ star ∷ rest) (UnclosedComment (place p (slash ∷ star ∷ rest)))
-  quoted : {c : ℕ} {rest : List ℕ} {fault : LexFault} → is_quote c ≡ true → QuotedFault p (place p (c ∷ rest)) c rest fault
+  comment : {rest : List ℕ} → NeverCloses rest
+      → FaultAt p (slash ∷ star ∷ rest) (UnclosedComment (place p (slash ∷ star ∷ rest)))
+  quoted : {c : ℕ} {rest : List ℕ} {fault : LexFault} → is_quote c ≡ true
+      → QuotedFault p (place p (c ∷ rest)) c rest fault
       → FaultAt p (c ∷ rest) fault
-  data_token : {rest : List ℕ} {fault : LexFault} → OctetsFault p rest fault → FaultAt p (less_than ∷ rest) fault
+  data_token : {rest : List ℕ} {fault : LexFault} → OctetsFault p rest fault
+      → FaultAt p (less_than ∷ rest) fault
 
 -- after a gap
 pub data FaultAfterGap (p : Places) : List ℕ → LexFault → Type 0 where
-  gap : {text from : List ℕ} {fault : LexFault} → Gap text from → FaultAt p from fault → FaultAfterGap p text fault
+  gap : {text from : List ℕ} {fault : LexFault} → Gap text from → FaultAt p from fault
+      → FaultAfterGap p text fault
 
 -- whitespace characters, or nothing
 pub data White : List ℕ → List ℕ → Type 0 where
   none : {rest : List ℕ} → White rest rest
-  more : {c : ℕ} {rest after : List ℕ} → is_white c ≡ true → White rest after → White (c ∷ rest) after
+  more : {c : ℕ} {rest after : List ℕ} → is_white c ≡ true → White rest after
+      → White (c ∷ rest) after
 
 -- whitespace is not followed by the mark
 abbrev pub LacksMark : ℕ → List ℕ → Type 0
-LacksMark mark text = (lexeme : Lexeme) (after : List ℕ) → mark_token mark ≡ Some lexeme → White text (mark ∷ after) → ⊥
+LacksMark mark text = (lexeme : Lexeme) (after : List ℕ) → mark_token mark ≡ Some lexeme
+    → White text (mark ∷ after) → ⊥
 
 -- whether an XML property list begins at the text
 abbrev pub begins_xml : List ℕ → Bool
-begins_xml text = starts_with nat_eq text (codes "<?xml") || starts_with nat_eq text (codes "<!DOCTYPE") || starts_with nat_eq text (codes "<plist")
+begins_xml text = starts_with nat_eq text (codes "<?xml")
+    || starts_with nat_eq text (codes "<!DOCTYPE") || starts_with nat_eq text (codes "<plist")
 
 -- the bytes are those of a text in which the fault follows tokens and a gap
 pub record HasFault (octets : List ℕ) (fault : LexFault) : Type 0 where

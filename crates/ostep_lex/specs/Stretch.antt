@@ -1,5 +1,6 @@
 -- Stretches: characters of one class, in ASCII or below the surrogates.
-use Rattle.std.specs.Prelude.{◌≡◌, ℕ, ◌≤◌, length, Bool, true, not, ◌&&◌, ◌==◌, nat_lt, List, [], ◌∷◌, ◌++◌}
+use Rattle.std.specs.Prelude.{◌≡◌, ℕ, ◌≤◌, length, Bool, true, not, ◌&&◌, ◌==◌, nat_lt, List, []}
+use Rattle.std.specs.Prelude.{◌∷◌, ◌++◌}
 use Rattle.ostep_lex.specs.declared.stretch.Class.{Class}
 use Rattle.ostep_lex.specs.declared.stretch.Class.TheVariants.{Run, White, Raw, Line, Starless}
 use Rattle.ostep_lex.specs.Character.{is_run, is_white, is_line_end, star}
@@ -34,12 +35,14 @@ pub record BeginsWithUnits (kind : Class) (order : ByteOrder) (octets rest : Lis
   pub stretch : is_stretch 0xD800 kind front ≡ true
   pub split : octets ≡ octets_of (encoding_by order) front ++ rest
 
-pub record AppendsUnits (kind : Class) (order : ByteOrder) (units more octets rest : List ℕ) : Type 0 where
+pub record AppendsUnits (kind : Class) (order : ByteOrder)
+    (units more octets rest : List ℕ) : Type 0 where
   pub begins : BeginsWithUnits kind order octets rest
   pub appended : more ≡ units ++ begins.front
 
 -- a stretch is first, followed by complete characters of the same encoding
-pub record LeadsStretch (kind : Class) (source : Source) (front : List ℕ) (after : Source) : Type 0 where
+pub record LeadsStretch (kind : Class) (source : Source) (front : List ℕ)
+    (after : Source) : Type 0 where
   pub stretch : is_stretch 0xD800 kind front ≡ true
   pub text : characters_in source ≡ front ++ characters_in after
   pub whole : IsWhole after
@@ -52,7 +55,8 @@ pub record PassesLead (kind : Class) (source after : Source) : Type 0 where
   pub leads : LeadsStretch kind source front after
 
 -- some stretch is first, and its characters are appended
-pub record AppendsStretch (kind : Class) (units more : List ℕ) (source after : Source) : Type 0 where
+pub record AppendsStretch (kind : Class) (units more : List ℕ)
+    (source after : Source) : Type 0 where
   pub front : List ℕ
   pub leads : LeadsStretch kind source front after
   pub appended : more ≡ units ++ front

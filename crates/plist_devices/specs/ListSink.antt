@@ -22,4 +22,5 @@ failures_of sink = sink.failures
 -- maximum
 abbrev pub FailsAt : ListSink → List ℕ → Type 0
 FailsAt sink piece =
-    ((length (octets_taken sink) ≡ room_of sink) × (0 < length piece)) ⊎ (count_limit ≤ failures_of sink)
+    ((length (octets_taken sink) ≡ room_of sink) × (0 < length piece))
+    ⊎ (count_limit ≤ failures_of sink)

@@ -25,4 +25,5 @@ failures_of source = source.failures
 
 -- the next take is the one that is to fail, or its number is above the maximum
 abbrev pub FailsNext : ListSource → Type 0
-FailsNext source = (failing_take source ≡ Some (takes_made source + 1)) ⊎ (count_limit ≤ takes_made source)
+FailsNext source = (failing_take source ≡ Some (takes_made source + 1))
+    ⊎ (count_limit ≤ takes_made source)

@@ -1,5 +1,6 @@
 -- What a string feeds a hasher: units below 256 eight at a time, and others four at a time.
-use Rattle.std.specs.Prelude.{ℕ, ◌+◌, ◌-◌, ◌*◌, if◌then◌else◌, List, [], ◌∷◌, ◌++◌, length, replicate, slice_index}
+use Rattle.std.specs.Prelude.{ℕ, ◌+◌, ◌-◌, ◌*◌, if◌then◌else◌, List, [], ◌∷◌, ◌++◌, length}
+use Rattle.std.specs.Prelude.{replicate, slice_index}
 use Rattle.std.specs.Hash as fed
 use Rattle.plist_value.specs.Narrow.{are_narrow}
 
@@ -33,7 +34,8 @@ fed_wide units = fed.usize (length units) ++ (fed_units units ++ fed.u8 255)
 -- Each write has eight units as bytes. The last write has the rest, zeros, and the sum of 128 and
 -- the number of units in the rest.
 abbrev pub fed_narrow : List ℕ → List (List ℕ)
-fed_narrow (a ∷ b ∷ c ∷ d ∷ e ∷ f ∷ g ∷ h ∷ rest) = (a ∷ b ∷ c ∷ d ∷ e ∷ f ∷ g ∷ h ∷ []) ∷ fed_narrow rest
+fed_narrow (a ∷ b ∷ c ∷ d ∷ e ∷ f ∷ g ∷ h ∷ rest) = (a ∷ b ∷ c ∷ d ∷ e ∷ f ∷ g ∷ h ∷ [])
+    ∷ fed_narrow rest
 fed_narrow rest = (rest ++ (replicate (7 - length rest) 0 ++ ((128 + length rest) ∷ []))) ∷ []
 
 -- the last byte is above 127, which the kind of no other scalar is
@@ -43,4 +45,5 @@ fed_text units = if are_narrow units then fed_narrow units else fed_wide units
 -- the first seven bytes, zeros after the end, and then `last`
 abbrev pub seven_and : List ℕ → ℕ → List ℕ
 seven_and xs last =
-    slice_index xs 0 ∷ slice_index xs 1 ∷ slice_index xs 2 ∷ slice_index xs 3 ∷ slice_index xs 4 ∷ slice_index xs 5 ∷ slice_index xs 6 ∷ last ∷ []
+    slice_index xs 0 ∷ slice_index xs 1 ∷ slice_index xs 2 ∷ slice_index xs 3 ∷ slice_index xs 4
+    ∷ slice_index xs 5 ∷ slice_index xs 6 ∷ last ∷ []

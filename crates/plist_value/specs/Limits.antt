@@ -1,6 +1,8 @@
 -- The size of a value, and the limits.
 use Rattle.std.specs.Prelude.{ℕ, ◌+◌, ◌*◌, ◌≤◌, length, max}
-use Rattle.plist_value.specs.Plist.{Scalar, text, whole, flag, real4, real8, moment, bytes, Plist, scalar, list, table, Items, no_items, item, Pairs, no_pairs, pair}
+use Rattle.plist_value.specs.Plist.{Scalar, text, whole, flag, real4, real8, moment, bytes, Plist}
+use Rattle.plist_value.specs.Plist.{scalar, list, table, Items, no_items, item, Pairs, no_pairs}
+use Rattle.plist_value.specs.Plist.{pair}
 use Rattle.plist_value.specs.declared.TheConstants.{MAX_NODES, MAX_DEPTH, MAX_PAYLOAD}
 
 -- Each scalar, container and key is a node.

@@ -2,7 +2,22 @@
 use Rattle.std.specs.Prelude.{◌≡◌, ℕ, List, ◌++◌, codes}
 use Rattle.std.specs.Fmt.{decimal}
 use Rattle.plist_value.specs.declared.refusals.Refusal.{Refusal}
-use Rattle.plist_value.specs.declared.refusals.Refusal.TheVariants.{TooShort, BadHeader, BadTrailer, BadOffset, BadReference, CutObject, BadMarker, NullObject, UidObject, SetObject, NotAscii, WideInteger, KeyNotText, DuplicateKey, Cycle, TooDeep, TooManyNodes, TooMuchPayload, BadUtf8, XmlForm, UnexpectedCharacter, UnclosedString, UnclosedComment, BadEscape, OctalRange, OddData, BadData, Expected, Junk, BadUtf16, NotInOpenStep, ReadFailed, WriteFailed, InputTooLarge, OutOfMemory}
+use Rattle.plist_value.specs.declared.refusals.Refusal.TheVariants.{TooShort, BadHeader, BadTrailer}
+use Rattle.plist_value.specs.declared.refusals.Refusal.TheVariants.{BadOffset, BadReference}
+use Rattle.plist_value.specs.declared.refusals.Refusal.TheVariants.{CutObject, BadMarker}
+use Rattle.plist_value.specs.declared.refusals.Refusal.TheVariants.{NullObject, UidObject}
+use Rattle.plist_value.specs.declared.refusals.Refusal.TheVariants.{SetObject, NotAscii}
+use Rattle.plist_value.specs.declared.refusals.Refusal.TheVariants.{WideInteger, KeyNotText}
+use Rattle.plist_value.specs.declared.refusals.Refusal.TheVariants.{DuplicateKey, Cycle, TooDeep}
+use Rattle.plist_value.specs.declared.refusals.Refusal.TheVariants.{TooManyNodes, TooMuchPayload}
+use Rattle.plist_value.specs.declared.refusals.Refusal.TheVariants.{BadUtf8, XmlForm}
+use Rattle.plist_value.specs.declared.refusals.Refusal.TheVariants.{UnexpectedCharacter}
+use Rattle.plist_value.specs.declared.refusals.Refusal.TheVariants.{UnclosedString, UnclosedComment}
+use Rattle.plist_value.specs.declared.refusals.Refusal.TheVariants.{BadEscape, OctalRange, OddData}
+use Rattle.plist_value.specs.declared.refusals.Refusal.TheVariants.{BadData, Expected, Junk}
+use Rattle.plist_value.specs.declared.refusals.Refusal.TheVariants.{BadUtf16, NotInOpenStep}
+use Rattle.plist_value.specs.declared.refusals.Refusal.TheVariants.{ReadFailed, WriteFailed}
+use Rattle.plist_value.specs.declared.refusals.Refusal.TheVariants.{InputTooLarge, OutOfMemory}
 use Rattle.plist_value.specs.declared.refusals.Place.{Place}
 use Rattle.plist_value.specs.declared.refusals.Place.TheVariants.{Nowhere, Object, Octet, After}
 use Rattle.plist_value.specs.declared.refusals.Report.{Report}
@@ -94,7 +109,8 @@ place_text (After sent) = codes " after " ++ (decimal sent ++ codes " octets")
 
 -- how a report is printed: the number, the name and the position
 abbrev pub report_text : Report → List ℕ
-report_text report = decimal (number_of report.0) ++ (codes " " ++ (name_of report.0 ++ place_text report.1))
+report_text report = decimal (number_of report.0)
+    ++ (codes " " ++ (name_of report.0 ++ place_text report.1))
 
 -- no two refusals have the same image
 abbrev pub TellsApart : {A : Type 0} → (Refusal → A) → Type 0

@@ -1,6 +1,7 @@
 -- The property list that a `Value` is.
 use Rattle.std.specs.Prelude.{ℕ, List, [], ◌∷◌, map}
-use Rattle.plist_value.specs.Plist.{text, whole, flag, real4, real8, moment, bytes, Plist, scalar, list, table, Items, no_items, item, Pairs, no_pairs, pair}
+use Rattle.plist_value.specs.Plist.{text, whole, flag, real4, real8, moment, bytes, Plist, scalar}
+use Rattle.plist_value.specs.Plist.{list, table, Items, no_items, item, Pairs, no_pairs, pair}
 use Rattle.plist_value.specs.Wholes.{number_of}
 use Rattle.plist_value.specs.declared.value.Value.{Value, fold-Value}
 use Rattle.plist_value.specs.declared.value.Value.TheOpen.{Value-F}

@@ -19,7 +19,8 @@ use Rattle.plistconv_c.specs.declared.checking.Finding.{Finding}
 use Rattle.plistconv_c.specs.declared.refusals.Refusal.{Refusal}
 
 -- the canonical file of the input's value is in the buffer
-pub record IsCanonicalGiven (octets before after : List ℕ) (count : ℕ) (reported : Refusal) : Type 0 where
+pub record IsCanonicalGiven (octets before after : List ℕ) (count : ℕ)
+    (reported : Refusal) : Type 0 where
   pub within : length octets ≤ MAX_INPUT
   pub file : List ℕ
   pub canonical : IsCanonicalOf octets file
@@ -27,7 +28,8 @@ pub record IsCanonicalGiven (octets before after : List ℕ) (count : ℕ) (repo
   pub none : reported ≡ no_refusal
 
 -- the printed text of the input's value is in the buffer
-pub record IsPrintGiven (octets before after : List ℕ) (count : ℕ) (reported : Refusal) : Type 0 where
+pub record IsPrintGiven (octets before after : List ℕ) (count : ℕ)
+    (reported : Refusal) : Type 0 where
   pub within : length octets ≤ MAX_INPUT
   pub text : List ℕ
   pub of : IsPrintOf octets text
@@ -54,7 +56,8 @@ pub record IsRefusalReported (octets : List ℕ) (reported : Refusal) (number : 
   pub number_reported : number ≡ reported.number
 
 -- the input is refused, and the buffer is unchanged
-pub record IsRefusedWhole (octets before after : List ℕ) (count : ℕ) (reported : Refusal) (number : ℕ) : Type 0 where
+pub record IsRefusedWhole (octets before after : List ℕ) (count : ℕ) (reported : Refusal)
+    (number : ℕ) : Type 0 where
   pub input : IsRefusalReported octets reported number
   pub kept : after ≡ before
   pub nothing : count ≡ 0
@@ -76,10 +79,12 @@ pub record IsCompared (first second : List ℕ) (equal : ℕ) (reported : Refusa
 -- the input that is refused, and its fault; the second only if the first is accepted
 pub data RefusedInput (first second : List ℕ) (fault : Fault) (input : ℕ) : Type 0 where
   first_refused : IsInputRefused first fault → input ≡ 1 → RefusedInput first second fault input
-  second_refused : (v : Plist) → IsInputAccepted first v → IsInputRefused second fault → input ≡ 2 → RefusedInput first second fault input
+  second_refused : (v : Plist) → IsInputAccepted first v → IsInputRefused second fault → input ≡ 2
+      → RefusedInput first second fault input
 
 -- one of the two is refused, and the refusal describes why
-pub record IsRefusedPair (first second : List ℕ) (equal : ℕ) (reported : Refusal) (number : ℕ) : Type 0 where
+pub record IsRefusedPair (first second : List ℕ) (equal : ℕ) (reported : Refusal)
+    (number : ℕ) : Type 0 where
   pub fault : Fault
   pub input : ℕ
   pub refused : RefusedInput first second fault input
@@ -104,7 +109,8 @@ pub record IsChecked (octets : List ℕ) (finding : Finding) (reported : Refusal
   pub none : reported ≡ no_refusal
 
 -- the input is too large, does not have the layout, or memory ran out, and the refusal says so
-pub record IsUnchecked (octets : List ℕ) (finding : Finding) (reported : Refusal) (number : ℕ) : Type 0 where
+pub record IsUnchecked (octets : List ℕ) (finding : Finding) (reported : Refusal)
+    (number : ℕ) : Type 0 where
   pub fault : Fault
   pub refused : IsCheckRefused octets fault
   pub reported_is : reported ≡ refusal_of fault 1

@@ -31,10 +31,12 @@ pub record IsInputAccepted (octets : List ℕ) (value : Plist) : Type 0 where
 -- which of the two is refused, and why; the second only if the first is accepted
 abbrev pub IsPairRefused : List ℕ → List ℕ → PairFault → Type 0
 IsPairRefused first second (First fault) = IsInputRefused first fault
-IsPairRefused first second (Second fault) = (v : Plist) × (IsInputAccepted first v × IsInputRefused second fault)
+IsPairRefused first second (Second fault) = (v : Plist)
+    × (IsInputAccepted first v × IsInputRefused second fault)
 
 -- the input is too large, or its check fails with this fault
 pub data IsCheckRefused (octets : List ℕ) (fault : Fault) : Type 0 where
   too_large : IsTooLarge octets fault → IsCheckRefused octets fault
-  refused : (cause : CheckFault) → length octets ≤ MAX_INPUT → IsCheckFault octets cause → fault ≡ check_fault_for cause
+  refused : (cause : CheckFault) → length octets ≤ MAX_INPUT → IsCheckFault octets cause
+      → fault ≡ check_fault_for cause
       → IsCheckRefused octets fault

@@ -4,7 +4,9 @@ use Rattle.plist_binary.specs.declared.fault.BinaryFault.TheVariants as binary
 use Rattle.ostep_text.specs.declared.fault.TextFault.TheVariants as text
 use Rattle.plist_forms.specs.Line.{line_of}
 use Rattle.plist_forms.specs.declared.faults.Fault.{Fault}
-use Rattle.plist_forms.specs.declared.faults.Fault.TheVariants.{Binary, Text, NotInOpenStep, ReadFailed, WriteFailed, InputTooLarge, OutOfMemory}
+use Rattle.plist_forms.specs.declared.faults.Fault.TheVariants.{Binary, Text, NotInOpenStep}
+use Rattle.plist_forms.specs.declared.faults.Fault.TheVariants.{ReadFailed, WriteFailed}
+use Rattle.plist_forms.specs.declared.faults.Fault.TheVariants.{InputTooLarge, OutOfMemory}
 use Rattle.plistconv_c.specs.Given.{IsGiven}
 use Rattle.plistconv_c.specs.Refusals.{refusal_of}
 use Rattle.plistconv_c.specs.declared.refusals.Refusal.{Refusal}
@@ -25,7 +27,8 @@ abbrev pub IsUnreported : Refusal → Type 0
 IsUnreported reported = (fault : Fault) → (input : ℕ) → reported ≡ refusal_of fault input → ⊥
 
 -- memory ran out for the line, or the refusal describes no fault; the buffer is unchanged
-pub record IsNoLine (before after : List ℕ) (count : ℕ) (reported : Refusal) (number : ℕ) : Type 0 where
+pub record IsNoLine (before after : List ℕ) (count : ℕ) (reported : Refusal)
+    (number : ℕ) : Type 0 where
   pub reason : ((number ≡ 60) × IsReported reported) ⊎ ((number ≡ 255) × IsUnreported reported)
   pub kept : after ≡ before
   pub nothing : count ≡ 0

@@ -13,7 +13,8 @@ use Rattle.plistconv_c.specs.Refusals.{no_refusal, refusal_of}
 use Rattle.plistconv_c.specs.declared.refusals.Refusal.{Refusal}
 
 -- the text of the input's value is in the buffer
-pub record IsTextGiven (octets before after : List ℕ) (count : ℕ) (reported : Refusal) : Type 0 where
+pub record IsTextGiven (octets before after : List ℕ) (count : ℕ)
+    (reported : Refusal) : Type 0 where
   pub value : Plist
   pub text : List ℕ
   pub accepted : IsInputAccepted octets value
@@ -23,11 +24,14 @@ pub record IsTextGiven (octets before after : List ℕ) (count : ℕ) (reported 
 
 -- the input is refused, or encodes a value that has no text
 pub data IsUnwritten (octets : List ℕ) (reported : Refusal) : Type 0 where
-  unread : (fault : Fault) → IsInputRefused octets fault → reported ≡ refusal_of fault 1 → IsUnwritten octets reported
-  no_text : (v : Plist) → IsInputAccepted octets v → text_of v ≡ None → reported ≡ refusal_of NotInOpenStep 1 → IsUnwritten octets reported
+  unread : (fault : Fault) → IsInputRefused octets fault → reported ≡ refusal_of fault 1
+      → IsUnwritten octets reported
+  no_text : (v : Plist) → IsInputAccepted octets v → text_of v ≡ None
+      → reported ≡ refusal_of NotInOpenStep 1 → IsUnwritten octets reported
 
 -- the refusal describes why, and the buffer is unchanged
-pub record IsTextRefused (octets before after : List ℕ) (count : ℕ) (reported : Refusal) (number : ℕ) : Type 0 where
+pub record IsTextRefused (octets before after : List ℕ) (count : ℕ) (reported : Refusal)
+    (number : ℕ) : Type 0 where
   pub reason : IsUnwritten octets reported
   pub number_reported : number ≡ reported.number
   pub kept : after ≡ before
@@ -35,4 +39,5 @@ pub record IsTextRefused (octets before after : List ℕ) (count : ℕ) (reporte
 
 -- why there is no text: the input is refused, or its value has none
 abbrev pub IsTextFault : List ℕ → Fault → Type 0
-IsTextFault octets fault = IsInputRefused octets fault ⊎ ((length octets ≤ MAX_INPUT) × HasNoOutput OpenStep octets fault)
+IsTextFault octets fault = IsInputRefused octets fault
+    ⊎ ((length octets ≤ MAX_INPUT) × HasNoOutput OpenStep octets fault)
