@@ -41,7 +41,7 @@ pub data Escape : List ℕ → List ℕ → List ℕ → Type 0 where
       → Escape text ((octal_number text).value ∷ []) (octal_number text).after
   unit : {text : List ℕ} → begins_digit 16 text ≡ true
       → Escape (unit_letter ∷ text) ((hexadecimal_number text).value ∷ [])
-        (hexadecimal_number text).after
+      (hexadecimal_number text).after
   character : {c : ℕ} {rest : List ℕ} → is_octal c ≡ false → (c == unit_letter) ≡ false
       → Escape (c ∷ rest) (escaped c) rest
 

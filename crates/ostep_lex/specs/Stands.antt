@@ -24,7 +24,7 @@ pub data EscapeFault (p : Places) (start : ℕ) : List ℕ → LexFault → Type
   cut_escape : EscapeFault p start (backslash ∷ []) (UnclosedString start)
   no_digit : {rest : List ℕ} → begins_digit 16 rest ≡ false
       → EscapeFault p start (backslash ∷ unit_letter ∷ rest)
-        (BadEscape (place p (backslash ∷ unit_letter ∷ rest)))
+      (BadEscape (place p (backslash ∷ unit_letter ∷ rest)))
   too_high : {rest : List ℕ} → begins_digit 8 rest ≡ true → 0x7f < (octal_number rest).value
       → EscapeFault p start (backslash ∷ rest) (OctalRange (place p (backslash ∷ rest)))
 

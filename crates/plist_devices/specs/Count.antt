@@ -13,7 +13,7 @@ one_more count = min (count + 1) count_limit
 abbrev pub Counts : {E : Type 0} → ℕ → ℕ → Result ℕ E → Type 0
 Counts before after result =
     MatchResult result (λ _. (before < count_limit) × (after ≡ before))
-      (λ _. after ≡ one_more before)
+    (λ _. after ≡ one_more before)
 
 -- A device failed during a call: its count rose, or is at the maximum.
 abbrev pub HasFailed : ℕ → ℕ → Type 0

@@ -24,8 +24,12 @@ place_of (After sent) = sent
 -- the refusal of an input for a fault
 abbrev pub refusal_of : Fault → ℕ → Refusal
 refusal_of fault input =
-    record { place = place_of (report_of fault).1; number = code_of fault;
-    unit = unit_of (report_of fault).1; input = input }
+    record {
+      place = place_of (report_of fault).1;
+      number = code_of fault;
+      unit = unit_of (report_of fault).1;
+      input = input;
+    }
 
 abbrev pub no_refusal : Refusal
 no_refusal = record { place = 0; number = 0; unit = 0; input = 0 }
