@@ -1,29 +1,35 @@
-"""What the plistconv commands share: files and their names, the program, messages and exit statuses.
+"""What the plistconv commands share: arguments, input, the program, messages and exit statuses.
 
 The commands read their files and pass the bytes to the program on its standard input, so names may be anything that
 the system allows. No command makes a temporary file, except beside a file that it replaces.
 """
 from __future__ import annotations
 
-import argparse
-import errno
-import os
-import re
-import shutil
 import signal
-import stat
-import subprocess
-import sys
-import tempfile
-import threading
-from functools import lru_cache
-from typing import IO, Callable, NoReturn
 
+if signal.getsignal(signal.SIGINT) is signal.default_int_handler:
+    signal.signal(signal.SIGINT, signal.SIG_DFL)  # An interrupt of the imports below prints no traceback.
+
+import argparse  # noqa: E402
+import errno  # noqa: E402
+import os  # noqa: E402
+import re  # noqa: E402
+import shutil  # noqa: E402
+import subprocess  # noqa: E402
+import sys  # noqa: E402
+import threading  # noqa: E402
+from contextlib import contextmanager  # noqa: E402
+from functools import lru_cache  # noqa: E402
+from typing import IO, Callable, Iterator, NoReturn  # noqa: E402
+
+VERSION = "0.3.0"
 COMMAND = os.path.basename(sys.argv[0])
+SECOND = "SECOND"  # where a command has the path of its second input
+STANDARD_INPUT = ("-", "/dev/stdin", "/dev/fd/0", "/proc/self/fd/0")
 PRINT_LIMIT = 64_000_000  # the most bytes of a printed text, unless PLISTCONV_PRINT_LIMIT is set
 XML_HINT = (
     "XML is converted first, always by the same one of: plistconv-canonicalise --from-xml FILE; "
-    "plutil -convert binary1 -o OUT IN; plistutil -i IN -f bin -o OUT"
+    "plistutil -i IN -f bin -o OUT; on macOS plutil -convert binary1 -o OUT IN"
 )
 
 
@@ -44,10 +50,19 @@ def reason(fault: OSError) -> str:
     return fault.strerror or str(fault)
 
 
+def why(fault: Exception) -> str:
+    """Returns the reason of a fault, without the name of the file."""
+    return reason(fault) if isinstance(fault, OSError) else str(fault)
+
+
+def escaped(text: str) -> str:
+    """Returns the text with line ends and control characters escaped."""
+    return "".join(c if c.isprintable() else c.encode("unicode_escape").decode() for c in text)
+
+
 def shown(name: str) -> str:
     """Returns the name for a message, with line ends and control characters escaped."""
-    text = os.fsencode(name).decode("utf-8", "backslashreplace")
-    return "".join(c if c.isprintable() else c.encode("unicode_escape").decode() for c in text)
+    return escaped(os.fsencode(name).decode("utf-8", "backslashreplace"))
 
 
 def say(message: str) -> None:
@@ -59,10 +74,69 @@ def say(message: str) -> None:
         pass
 
 
-def parser(usage: str) -> argparse.ArgumentParser:
-    """Returns an argument parser whose help is the docstring of the command."""
-    shape = argparse.RawDescriptionHelpFormatter
-    return argparse.ArgumentParser(prog=COMMAND, description=usage, formatter_class=shape, allow_abbrev=False)
+class Faults:
+    """Reports what is wrong with files while the others are worked on."""
+
+    def __init__(self) -> None:
+        self.count, self.has_xml = 0, False
+
+    @contextmanager
+    def of(self, name: str, end: str = "") -> Iterator[None]:
+        """Says why the work on a file fails, and ends this work."""
+        try:
+            yield
+        except (Refused, OSError) as fault:
+            say(f"{shown(name)}: {escaped(why(fault))}{end}")
+            self.count += 1
+            self.has_xml = self.has_xml or isinstance(fault, RefusedXml)
+
+    def status(self) -> int:
+        """Returns the exit status, and says how to convert XML if some was refused."""
+        if self.has_xml:
+            say(XML_HINT)
+        return 1 if self.count else 0
+
+
+class Version(argparse.Action):
+    """The option that prints the version."""
+
+    def __call__(self, parser: argparse.ArgumentParser, *_rest: object) -> NoReturn:
+        write(f"{COMMAND} {VERSION}\n".encode())
+        sys.exit(0)
+
+
+class Parser(argparse.ArgumentParser):
+    """An argument parser whose help is the docstring of the command, and that names unknown options."""
+
+    def __init__(self, usage: str) -> None:
+        self.options: set[str] = set()
+        shape = argparse.RawDescriptionHelpFormatter
+        super().__init__(prog=COMMAND, description=usage, formatter_class=shape, allow_abbrev=False)
+        self.add_argument("--version", action=Version, nargs=0, help="print the version and exit")
+
+    def add_argument(self, *names: str, **about: object) -> argparse.Action:
+        """Adds an argument or an option."""
+        self.options.update(name for name in names if name.startswith("-"))
+        return super().add_argument(*names, **about)  # type: ignore[arg-type]
+
+    def print_help(self, file: object = None) -> None:
+        """Prints the help, or ends the command if it cannot be written."""
+        write(self.format_help().encode())
+
+    def error(self, message: str) -> NoReturn:
+        """Ends the command with a usage error, which is an unknown option if there is one."""
+        words = sys.argv[1:]
+        words = words[:words.index("--")] if "--" in words else words
+        for word in words:
+            known = word.partition("=")[0] in self.options or word[:2] in self.options
+            if word.startswith("-") and word != "-" and not known:
+                message = f"there is no option {shown(word)}"
+        super().error(message)
+
+    def read_input_once(self, names: list[str]) -> None:
+        """Ends the command with a usage error if several names are those of standard input, which is read once."""
+        if sum(name in STANDARD_INPUT for name in names) > 1:
+            self.error("standard input is named twice")
 
 
 def read(name: str) -> bytes:
@@ -99,48 +173,27 @@ def write_all(file: int, octets: bytes) -> None:
         rest = rest[os.write(file, rest):]
 
 
-def replace(name: str, octets: bytes) -> None:
-    """Replaces the content of a regular file in one step.
-
-    Renames a new file over it, with the same mode, and the same owner if the system allows that. If the name is a
-    symbolic link, the file that it points to is replaced. Raises `OSError` or `Refused`, and then leaves the file
-    unchanged.
-    """
-    path = os.path.realpath(name)
-    old = os.stat(name)
-    is_open_file = os.path.abspath(name).startswith(("/dev/std", "/dev/fd/", "/proc/"))
-    if is_open_file or not stat.S_ISREG(old.st_mode) or not os.path.samestat(old, os.stat(path)):
-        raise Refused("is no regular file, and stays as it is")
-    file, beside = tempfile.mkstemp(prefix=".plistconv-", dir=os.path.dirname(path))
-    try:
-        try:
-            write_all(file, octets)
-            try:
-                os.fchown(file, old.st_uid, old.st_gid)
-            except PermissionError:
-                pass
-            os.fchmod(file, stat.S_IMODE(old.st_mode))
-            os.fsync(file)
-        finally:
-            os.close(file)
-        os.replace(beside, path)
-    except BaseException:
-        os.unlink(beside)
-        raise
-
-
 @lru_cache(maxsize=None)
 def program() -> str:
-    """Returns the path of the program: PLISTCONV, or that beside the command, of its installation, or on the path."""
+    """Returns the path of the program: PLISTCONV, or that beside the command, or that of the same checkout or
+    installation, or that on the path."""
     named = os.environ.get("PLISTCONV")
-    beside = os.path.dirname(os.path.abspath(sys.argv[0]))
-    installed = os.path.join(os.path.dirname(os.path.realpath(__file__)), "..", "..", "..", "bin")
-    places = [named] if named else [*(os.path.join(place, "plistconv") for place in (beside, installed)), "plistconv"]
-    for place in places:
+    for place in [named] if named else [*own_places(), "plistconv"]:
         found = shutil.which(place)
         if found:
             return found
     raise Trouble(f"there is no program {shown(named or 'plistconv')}")
+
+
+def own_places() -> list[str]:
+    """Returns the paths that the program has beside the command, and in the same checkout or installation."""
+    places = [os.path.join(os.path.dirname(os.path.abspath(sys.argv[0])), "plistconv")]
+    folder = os.path.dirname(os.path.realpath(__file__))
+    if os.path.isfile(os.path.join(folder, "..", "crates.txt")):
+        places.append(os.path.join(folder, "..", "plistconv"))
+    elif folder.endswith(os.path.join("", "share", "plistconv", "tools")):
+        places.append(os.path.join(folder, "..", "..", "..", "bin", "plistconv"))
+    return places
 
 
 def ask(arguments: list[str], octets: bytes, limit: int = sys.maxsize) -> tuple[int, bytes]:
@@ -149,44 +202,67 @@ def ask(arguments: list[str], octets: bytes, limit: int = sys.maxsize) -> tuple[
     status, output = run_over([program(), *arguments], octets, limit)
     if len(output) > limit:
         raise Refused(f"prints more than {limit} bytes, the limit (PLISTCONV_PRINT_LIMIT)")
+    return answer(status, output, is_xml(octets))
+
+
+def answer(status: int, output: bytes, has_xml: bool = False) -> tuple[int, bytes]:
+    """Returns the status and output of the program. Raises `Refused` if it refuses its input."""
     if status in (0, 1):
         return status, output
     why = re.search(rb"refused [ -~]*", output)
     if status not in (2, 5) or why is None:
         raise Trouble(f"{shown(program())} ended with status {status}")
     line = why[0].decode()
-    raise RefusedXml(f"{line} (XML)") if is_xml(octets) else Refused(line)
+    raise RefusedXml(f"{line} (XML)") if has_xml else Refused(line)
 
 
-def run_over(command: list[str], octets: bytes, limit: int) -> tuple[int, bytes]:
-    """Runs a program with the bytes as input and returns its status and output. Ends the program if its output exceeds
-    `limit` bytes."""
+def run_over(command: list[str], octets: bytes, limit: int = sys.maxsize, second: bytes = b"") -> tuple[int, bytes]:
+    """Runs a program with the bytes as input, and returns its status and output. If the last word of the command is
+    `SECOND`, it becomes the path of a pipe with other bytes. Ends the program if its output exceeds `limit` bytes."""
+    pipes = os.pipe() if command[-1] == SECOND else ()
+    if pipes:
+        command = [*command[:-1], f"/dev/fd/{pipes[0]}"]
     try:
-        process = subprocess.Popen(command, stdin=subprocess.PIPE, stdout=subprocess.PIPE)
+        process = subprocess.Popen(command, stdin=subprocess.PIPE, stdout=subprocess.PIPE, pass_fds=pipes[:1])
     except OSError as fault:
         raise Trouble(f"{shown(command[0])} cannot be run: {reason(fault)}") from None
     with process:
-        assert process.stdin is not None and process.stdout is not None
-        feeder = threading.Thread(target=feed, args=(process.stdin, octets))
-        feeder.start()
-        output = bytearray()
-        while len(output) <= limit:
-            part = process.stdout.read(1 << 20)
-            if not part:
-                break
-            output += part
-        else:
+        try:
+            assert process.stdin is not None and process.stdout is not None
+            feeders = [threading.Thread(target=feed, args=(process.stdin, octets))]
+            if pipes:
+                os.close(pipes[0])
+                feeders.append(threading.Thread(target=feed, args=(os.fdopen(pipes[1], "wb"), second)))
+            for feeder in feeders:
+                feeder.start()
+            output = read_up_to(process.stdout, limit)
+        except BaseException:  # A signal: a program that does not read would keep the pipe from being closed.
             process.kill()
-        feeder.join()
-    return process.returncode, bytes(output)
+            raise
+        if len(output) > limit:
+            process.kill()
+        for feeder in feeders:
+            feeder.join()
+    return process.returncode, output
+
+
+def read_up_to(pipe: IO[bytes], limit: int) -> bytes:
+    """Returns what is written to a pipe, or a part of more than `limit` bytes."""
+    output = bytearray()
+    while len(output) <= limit:
+        part = pipe.read(1 << 20)
+        if not part:
+            break
+        output += part
+    return bytes(output)
 
 
 def feed(pipe: IO[bytes], octets: bytes) -> None:
-    """Writes the bytes to a pipe and closes it. The reader may end earlier."""
+    """Writes the bytes to a pipe and closes it. The reader may end earlier, or the pipe be closed at a signal."""
     try:
         with pipe:
             pipe.write(octets)
-    except BrokenPipeError:
+    except (BrokenPipeError, ValueError):
         pass
 
 
@@ -204,12 +280,25 @@ def print_limit() -> int:
 
 
 def printed(octets: bytes) -> bytes:
-    """Returns the printed text of a property list, of XML too. Raises `Refused`, also if it is too long."""
-    limit = print_limit()
-    try:
-        return ask(["print", "/dev/stdin"], octets, limit)[1]
-    except RefusedXml:
-        return ask(["print", "/dev/stdin"], binary_of_xml(octets), limit)[1]
+    """Returns the printed text of a property list. Raises `Refused`, also if it is too long."""
+    return ask(["print", "/dev/stdin"], octets, print_limit())[1]
+
+
+def print_begins(octets: bytes) -> bytes:
+    """Returns the first bytes of the printed text of a property list, however long it is. Raises `Refused`."""
+    most = 1 << 10
+    status, output = run_over([program(), "print", "/dev/stdin"], octets, most)
+    return output[:most] if len(output) > most else answer(status, output)[1]
+
+
+def same(old: bytes, new: bytes) -> bool:
+    """Returns whether two property lists have equal values. Raises `Refused`."""
+    return answer(*run_over([program(), "same", "/dev/stdin", SECOND], old, second=new))[0] == 0
+
+
+def without_xml(octets: bytes) -> bytes:
+    """Returns the bytes, or a binary file with the same value if they are XML. Raises `Refused`."""
+    return binary_of_xml(octets) if is_xml(octets) else octets
 
 
 def is_xml(octets: bytes) -> bool:
@@ -242,7 +331,7 @@ def prepare() -> None:
             os.fstat(number)
         except OSError:
             os.open(os.devnull, os.O_RDWR)
-    for number in (signal.SIGTERM, signal.SIGHUP):
+    for number in (signal.SIGTERM, signal.SIGHUP, signal.SIGINT):
         if signal.getsignal(number) is signal.SIG_DFL:
             signal.signal(number, end)
 
@@ -260,8 +349,8 @@ def close_output() -> None:
 
 def run(main: Callable[[], int]) -> NoReturn:
     """Runs the command and exits with the status that it returns, or with 2 on `Trouble`."""
-    prepare()
     try:
+        prepare()
         try:
             status = main()
         except SystemExit as ended:  # Raised by the argument parser, or at a signal.
@@ -271,9 +360,9 @@ def run(main: Callable[[], int]) -> NoReturn:
         close_output()
     except SystemExit as ended:
         status = ended.code
-    except KeyboardInterrupt:
-        status = 128 + signal.SIGINT
     except (Trouble, MemoryError) as fault:
         say(str(fault) or "out of memory")
         status = 2
+    if signal.getsignal(signal.SIGINT) is end:
+        signal.signal(signal.SIGINT, signal.SIG_DFL)
     sys.exit(status)

@@ -1,16 +1,15 @@
-"""Tests the commands with git: the pre-commit hook, git diff, and the examples of the pages."""
+"""Tests plistconv-staged, the pre-commit hook: what it checks and what it says."""
 from __future__ import annotations
 
 import os
 import plistlib
 import re
-import shlex
 import shutil
 import subprocess
 import sys
 import unittest
 
-from testing import ARCHIVE, OTHER, SAME, TEXT, TOOLS, TOP, TWICE, XML, Case
+from testing import ARCHIVE, OTHER, SAME, TEXT, TOOLS, TWICE, XML, Repository
 
 
 OLD = "an OpenStep text, which is not canonical"
@@ -19,7 +18,7 @@ FAULTS = (
     ("a folder/blank .plist", TEXT, OLD),
     ("n\nl.plist", TEXT, OLD),
     ("-dash.plist", TEXT, OLD),
-    ("caf\u00e9.strings", b"a=b;", OLD),
+    ("caf\u00e9.plist", b"a=b;", OLD),
     ("UPPER.PLIST", TEXT, OLD),
     ("[a]*?.plist", TEXT, OLD),
     (":(top)x.plist", TEXT, OLD),
@@ -29,45 +28,6 @@ FAULTS = (
     ("archive.plist", ARCHIVE, "refused 9 UidObject at object 2"),
     ("twice.plist", TWICE, "refused 14 DuplicateKey at octet 3"),
 )
-REFUSED = (
-    (ARCHIVE, "refused 9 UidObject at object 2"),
-    (TWICE, "refused 14"),
-    (b"\x00\xff\x1b[31m", "refused"),
-    (XML.replace(b"real", b"rael"), "refused as XML: line 2: there is no element <rael>"),
-)
-
-
-class Repository(Case):
-    """A test in a new repository, with the commands on the path, in which the hook may be installed."""
-
-    def setUp(self):
-        super().setUp()
-        self.git("init", "-q", "-b", "main") if self.has_branches() else self.git("init", "-q")
-        for path in TOOLS.glob("plistconv-*"):
-            self.assertTrue(os.access(str(path), os.X_OK), path)
-        # So that `#!/usr/bin/env python3` is the Python that runs the tests.
-        self.python = self.folder / ".git" / "bin"
-        self.python.mkdir()
-        (self.python / "python3").write_bytes(f'#!/bin/sh\nexec {shlex.quote(sys.executable)} "$@"\n'.encode())
-        (self.python / "python3").chmod(0o755)
-        self.environment["PATH"] = f"{self.python}{os.pathsep}{self.environment['PATH']}"
-
-    def has_branches(self):
-        """Returns whether git has an option for the name of the first branch."""
-        version = re.findall(rb"\d+", self.git("--version"))
-        return [int(number) for number in version[:2]] >= [2, 28]
-
-    def hook(self):
-        """Installs the hook with the lines of its help."""
-        shown = self.tool("staged", "--help").stdout.decode()
-        lines = re.search(r"(?m)^  printf .*\n  chmod .*$", shown)[0]
-        os.makedirs(str(self.folder / ".git" / "hooks"), exist_ok=True)
-        self.call(["sh", "-ec", lines])
-
-    def commit(self, *words, status=0, env=None):
-        """Commits, and returns the messages."""
-        options = {"env": env} if env else {}
-        return self.call(["git", "commit", "-qm", "one", *words], status, **options).stderr.decode()
 
 
 class Staged(Repository):
@@ -139,7 +99,9 @@ class Staged(Repository):
         self.put("b.plist", self.canonical(OTHER))
         self.commit("--", "b.plist")
         self.commit("--no-verify", "--", "a.plist")
-        self.assertIn("a.plist: an OpenStep", self.commit("--amend", status=1))
+        # Files that are as in HEAD are not checked.
+        self.commit("--amend")
+        self.refuses("a.plist: an OpenStep", "staged", "--all")
 
     def test_below_the_top_and_in_a_folder_of_another_work_tree(self):
         self.put("sub/a.plist", self.canonical(TEXT))
@@ -156,11 +118,54 @@ class Staged(Repository):
             words = ["sh", "-c", f'cd "{folder}" && git add -A . && git commit -qm two']
             self.assertIn(b"staged: sub/b.plist: an OpenStep", self.call(words, 1).stderr)
 
+    def test_only_what_differs_from_head_is_checked(self):
+        self.put("old.plist", TEXT)
+        self.put("moved.plist", OTHER)
+        self.put("good.plist", self.canonical(TEXT))
+        self.git("add", "-A")
+        self.refuses("old.plist: an OpenStep", "staged")  # There is no HEAD.
+        self.commit()
+        self.hook()
+        self.put("good.plist", self.canonical(OTHER))
+        self.commit("-a")
+        self.git("mv", "moved.plist", "new.plist")
+        said = self.commit(status=1)
+        self.assertIn("new.plist: an OpenStep", said)
+        self.assertNotIn("old.plist", said)
+        self.git("mv", "new.plist", "moved.plist")
+        self.put("a file", b"one")
+        self.git("rm", "-q", "good.plist")
+        self.commit("-a")
+        run = self.tool("staged", "--all", status=1)
+        self.assertEqual(run.stderr.count(b": an OpenStep text"), 2)
+
+    def test_many_files_are_read_by_one_git(self):
+        for number in range(40):
+            self.put(f"{number}.plist", b"{a=%d;}" % number)
+        self.git("add", "-A")
+        self.put(".git/bin/git", b'#!/bin/sh\necho "$1" >> "$CALLS"\nPATH=${PATH#*:} exec git "$@"\n').chmod(0o755)
+        calls = self.folder / "calls"
+        run = self.tool("staged", status=1, env={**self.environment, "CALLS": str(calls)})
+        self.assertEqual(run.stderr.count(b": an OpenStep text"), 40)
+        self.assertLess(len(calls.read_bytes().split()), 10)
+        self.assertEqual(calls.read_bytes().split().count(b"cat-file"), 1)
+
+    def test_texts_that_people_keep_are_checked_only_if_asked_for(self):
+        for name in ("Localizable.strings", "Info.txt", "a.plist.orig"):
+            self.put(name, b"/* for translators */ a = b;")
+        self.git("add", "-A")
+        self.prints(b"", "staged")
+        self.put(".gitattributes", b"*.strings plistconv\n")
+        self.git("add", "-A")
+        run = self.tool("staged", status=1)
+        self.assertIn(b"Localizable.strings: an OpenStep text", run.stderr)
+        self.assertIn(b", which loses comments and the order of keys: plistconv-canonicalise", run.stderr)
+
     def test_attributes_of_the_index_leave_files_out_and_add_some(self):
         self.put("k.plist", ARCHIVE)
         self.put("settings", TEXT)
         self.git("add", "k.plist", "settings")
-        self.refuses("to commit a file as it is: a line NAME -plistconv in .gitattributes", "staged")
+        self.refuses("a line of .gitattributes, and git add .gitattributes: /k.plist -plistconv", "staged")
         self.put(".gitattributes", b"k.plist -plistconv\nsettings plistconv\n")
         self.refuses("k.plist: refused 9", "staged")
         self.git("add", ".gitattributes")
@@ -171,17 +176,103 @@ class Staged(Repository):
         self.git("rm", "-q", "--cached", "settings")
         self.commit()
 
-    def test_what_is_said_mends_the_files(self):
-        for name, octets in (("a b.plist", TEXT), ("-c'.plist", SAME), ("x.plist", XML), ("$(no).strings", b"a=b;")):
-            self.put(name, octets)
+    def test_line_of_the_hint_leaves_out_the_file_that_it_names(self):
+        names = ["a b.plist", "[ab].plist", "b.plist", "#x.plist", "!x.plist", 'q"\\.plist', "n\nl.plist", "sub/\u00e9 .plist",
+                 "*.plist", os.fsdecode(b"caf\xe9.plist")]
+        for name in names:
+            self.put(name, ARCHIVE)
+            self.git("--literal-pathspecs", "add", "--", name)
+        said = self.tool("staged", status=1).stderr.decode()
+        lines = re.findall(r"(?m)^.*git add \.gitattributes: (.* -plistconv)$", said)
+        self.assertEqual(len(lines), len(names))
+        for line in lines:
+            self.put(".gitattributes", line.encode() + b"\n")
+            self.git("add", ".gitattributes")
+            self.assertEqual(self.tool("staged", status=1).stderr.count(b": refused 9"), len(names) - 1, line)
+        self.put(".gitattributes", "\n".join(lines).encode())
+        self.git("add", ".gitattributes")
+        self.prints(b"", "staged")
+
+    def test_attributes_that_change_bytes_are_refused_with_the_line_that_mends(self):
+        value = self.canonical(b"(" + b"word," * 100 + b"\"\n\r\n\", " * 99 + b")")
+        self.put("a.plist", value)
+        self.put("Settings", value)
+        said = "git changes its line ends: the attribute text or eol is set"
+        for line in ("text", "eol=crlf", "text eol=lf", "text=input", "crlf", "crlf=input"):
+            self.put(".gitattributes", f"* {line}\nSettings plistconv\n".encode())
+            self.git("add", "-A")
+            run = self.tool("staged", "--all", status=1)
+            for name, fix in (("a.plist", "*.plist -text diff=plist"), ("Settings", "/Settings -text diff=plist")):
+                self.assertIn(f"{name}: {said}\n".encode(), run.stderr)
+                self.assertIn(f"the last line of .gitattributes, and git add .gitattributes: {fix}\n".encode(), run.stderr)
+        fixes = "*.plist -text diff=plist\n/Settings -text diff=plist\n"
+        for line in ("* text\nSettings plistconv\n" + fixes, "* text=auto eol=crlf\nSettings plistconv\n", "* -text eol=crlf\n",
+                     "* -crlf\n", "* diff=plist\n"):
+            self.put(".gitattributes", line.encode())
+            self.git("rm", "-rqf", "--cached", ".")
+            self.git("add", "-A")
+            self.prints(b"", "staged", "--all")
+            # And git does keep the bytes.
+            self.git("-c", "core.autocrlf=false", "checkout-index", "--prefix=out/", "-a")
+            self.assertEqual((self.folder / "out" / "a.plist").read_bytes(), value, line)
+            shutil.rmtree(str(self.folder / "out"))
+
+    def test_attributes_are_checked_if_they_change(self):
+        self.put("a.plist", self.canonical(TEXT))
+        self.put("old.plist", TEXT)
         self.git("add", "-A")
+        self.commit()
+        self.put("sub/.gitattributes", b"")
+        self.put(".gitattributes", b"*.plist text\n")
+        self.git("add", "-A")
+        run = self.tool("staged", status=1)
+        self.assertEqual(run.stderr.count(b": git changes its line ends"), 2)
+        self.assertNotIn(b"an OpenStep text", run.stderr)
+        self.git("commit", "-qm", "two")
+        self.prints(b"", "staged")
+
+    def test_what_is_said_mends_the_files(self):
+        for name, octets in (("a b.plist", TEXT), ("-c'.plist", SAME), ("x.plist", XML), ("$(no).plist", b"a=b;"),
+                             ("[ab].plist", TEXT), (":x.plist", UNSORTED), ("empty.plist", b""), ("n\n'\\.plist", UNSORTED),
+                             ("comment.plist", b"// {}"), (os.fsdecode(b"caf\xe9.plist"), UNSORTED)):
+            self.put(name, octets)
+            self.git("--literal-pathspecs", "add", "--", name)
+        self.put("b.plist", b"not staged")
         self.hook()
         said = self.commit(status=1)
-        lines = re.findall(r"(?m)in the top folder: (.*)$", said)
-        self.assertEqual(len(lines), 2)
+        lines = re.findall(r"(?m)to mend in the top folder(?:, which loses comments and the order of keys)?: (.*)$", said)
+        self.assertEqual(len(lines), 3)
+        self.assertEqual(said.count("loses comments"), 2)
+        if shutil.which("bash") is None:
+            self.skipTest("skipped: there is no bash")
         for line in lines:
-            self.call(["sh", "-ec", line])
+            self.call(["bash", "-ec", line])
         self.commit()
+        self.assertIn(b"?? b.plist", self.git("status", "--porcelain"))
+
+    def test_partly_staged_files_are_named(self):
+        for name in ("a.plist", "b.plist", "c.plist"):
+            self.put(name, TEXT)
+        self.git("add", "-A")
+        self.put("b.plist", OTHER)
+        (self.folder / "c.plist").unlink()
+        said = self.tool("staged", status=1).stderr.decode()
+        more = "the work tree has another content, and git add takes all of it"
+        self.assertEqual(re.findall(f"(?m)(.): {more}$".replace("(.)", "(.*)"), said),
+                         ["plistconv-staged: b.plist", "plistconv-staged: c.plist"])
+
+    def test_relative_folders_in_the_variables_of_git_are_kept(self):
+        self.put("work/sub/a.plist", TEXT)
+        self.put("work/sub/.gitattributes", b"k.plist -plistconv\n")
+        self.put("work/sub/k.plist", ARCHIVE)
+        env = {**self.environment, "GIT_DIR": ".git", "GIT_WORK_TREE": "work"}
+        self.git("add", "-A", env=env)
+        for folder, way in ((".", "."), ("work", ".."), ("work/sub", "../..")):
+            env.update(GIT_DIR=f"{way}/.git", GIT_WORK_TREE=f"{way}/work")
+            run = self.tool("staged", status=1, env=env, cwd=str(self.folder / folder))
+            self.assertIn(b"staged: sub/a.plist: an OpenStep", run.stderr)
+            self.assertNotIn(b"k.plist", run.stderr)
+            self.assertNotIn(b"another content", run.stderr)
 
     def test_file_that_is_only_intended_to_be_added_is_no_fault(self):
         self.put("a.plist", TEXT)
@@ -199,92 +290,6 @@ class Staged(Repository):
         with open("/dev/full", "wb") as full:
             run = subprocess.run(words, stdout=full, stderr=full, check=False, cwd=str(self.folder), env=env)
         self.assertEqual(run.returncode, 2)
-
-
-class Textconv(Repository):
-    """git diff."""
-
-    def test_what_is_refused_is_one_line_without_its_octets(self):
-        for octets, why in REFUSED:
-            self.put("a", octets)
-            run = self.tool("textconv", "a")
-            self.assertRegex(run.stdout.decode(), r"^Binary file: %s[ -~]*; SHA-256 [0-9a-f]{64}\n$" % re.escape(why))
-            self.assertEqual(run.stderr, b"")
-
-    def test_lines_of_the_page_make_git_diff_readable(self):
-        page = (TOP / "docs" / "RECIPES.md").read_text(encoding="utf-8")
-        lines = re.search(r"(?m)^    git config .*\n    echo .*$", page)[0]
-        for shown in (page, self.tool("textconv", "--help").stdout.decode()):
-            for line in lines.splitlines():
-                self.assertIn(line.strip() + "\n", shown)
-        self.environment["GIT_CONFIG_GLOBAL"] = str(self.folder / ".git" / "global")
-        self.environment["HOME"] = str(self.folder / ".git")
-        self.call(["sh", "-ec", lines])
-        files = {"a b.plist": (TEXT, OTHER), "-x.plist": (XML, XML.replace(b"2.5", b"3.5")),
-                 "k.plist": (ARCHIVE, ARCHIVE.replace(b"\x80\x01", b"\x80\x02"))}
-        for number in (0, 1):
-            for name, octets in files.items():
-                self.put(name, octets[number])
-            if number == 0:
-                self.git("add", "-A")
-                self.commit()
-        shown = self.git("diff").decode()
-        for line in ('-  "a" => "b"', '+  "a" => "c"', '-  "a" => 2.5', '+  "a" => 3.5'):
-            self.assertIn(f"\n{line}", shown)
-        for sign in "-+":
-            self.assertIn(f"\n{sign}Binary file: refused 9 UidObject", shown)
-        self.assertNotIn("\x80", shown)
-
-
-class Tree(Repository):
-    """The property lists of a repository, found as the page says."""
-
-    def test_line_of_the_page_makes_a_repository_canonical_and_nothing_else(self):
-        page = (TOP / "docs" / "RECIPES.md").read_text(encoding="utf-8")
-        line = re.search(r"(?m)^    (git ls-files -z .*xargs -0 plistconv-canonicalise --)$", page)[1]
-        self.put("a b.plist", TEXT)
-        self.put("-x.plist", TEXT)
-        self.put("sub/b.strings", b"a=b;")
-        self.put("word.txt", b"word")
-        self.put("c.plist/d", TEXT)
-        self.git("add", "-A")
-        self.commit()
-        self.git("branch", "update-Info.plist")
-        self.put("untracked.plist", TEXT)
-        self.call(["sh", "-ec", line])
-        for name in ("a b.plist", "-x.plist"):
-            self.assertEqual((self.folder / name).read_bytes(), self.canonical(TEXT))
-        self.assertEqual((self.folder / "sub" / "b.strings").read_bytes(), self.canonical(b"a=b;"))
-        for name, octets in (("word.txt", b"word"), ("untracked.plist", TEXT), ("c.plist/d", TEXT)):
-            self.assertEqual((self.folder / name).read_bytes(), octets)
-        self.git("fsck", "--strict")
-        self.git("rev-parse", "update-Info.plist")
-        # A branch is a text of one word.
-        self.refuses("one word or of none", "canonicalise", ".git/refs/heads/update-Info.plist")
-        self.git("rev-parse", "update-Info.plist")
-
-    def test_lines_of_the_page_for_archives_give_equal_values_equal_bytes(self):
-        page = (TOP / "docs" / "RECIPES.md").read_text(encoding="utf-8")
-        digests = re.search(r"(?m)^    (digests\(\) .*)\n    (diff .*)$", page)
-        archive = re.search(r"(?m)^    (tar --sort=name (?:.*\\\n)?.*)$", page)[1]
-        for name, octets in (("Old.app", TEXT), ("New.app", SAME)):
-            self.put(f"{name}/a b/x.plist", octets)
-            self.put(f"{name}/one.plist", b"a=b;")
-            self.put(f"{name}/program", name.encode())
-        words = ["bash", "-c", "\n".join(digests.groups())]
-        if shutil.which("bash") is None:
-            self.skipTest("skipped: there is no bash")
-        self.assertEqual(self.call(words).stdout, b"")
-        self.put("New.app/one.plist", b"a=c;")
-        self.assertEqual(self.call(words, 1).stdout.count(b"one.plist"), 2)
-        if b"GNU tar" not in self.call(["tar", "--version"]).stdout:
-            self.skipTest("skipped: there is no GNU tar")
-        self.call(["sh", "-ec", archive.replace("Example.app", "Old.app")])
-        first = (self.folder / "example.tar").read_bytes()
-        os.utime(str(self.folder / "Old.app" / "program"), (1, 1))
-        (self.folder / "Old.app" / "program").chmod(0o600)
-        self.call(["sh", "-ec", archive.replace("Example.app", "Old.app")])
-        self.assertEqual((self.folder / "example.tar").read_bytes(), first)
 
 
 if __name__ == "__main__":

@@ -28,7 +28,7 @@ class Xml(Case):
     def refused(self, octets: bytes, why: str) -> None:
         """Expects every command that reads XML to refuse the document."""
         self.refuses(f"-: refused as XML: {why}", "canonicalise", "--from-xml", "-", input=octets)
-        self.refuses(f"-: refused as XML: {why}", "diff", "-", "-", input=octets, status=2)
+        self.refuses(f"-: refused as XML: {why}", "diff", "-", "none", input=octets, status=2)
         self.assertIn(f"Binary file: refused as XML: {why}".encode(), self.tool("textconv", "-", input=octets).stdout)
 
     def test_values_are_those_of_plistlib(self):

@@ -2,6 +2,8 @@
 from __future__ import annotations
 
 import os
+import re
+import shlex
 import shutil
 import stat
 import subprocess
@@ -109,3 +111,33 @@ class Case(unittest.TestCase):
         except OSError:
             self.skipTest("skipped: no device can be made here")
         return path
+
+
+class Repository(Case):
+    """A test in a new repository, with the commands on the path, in which the hook may be installed."""
+
+    def setUp(self):
+        super().setUp()
+        self.git("init", "-q", "-b", "main") if self.has_branches() else self.git("init", "-q")
+        for path in TOOLS.glob("plistconv-*"):
+            self.assertTrue(os.access(str(path), os.X_OK), path)
+        # So that `#!/usr/bin/env python3` is the Python that runs the tests.
+        self.python = self.folder / ".git" / "bin"
+        self.python.mkdir()
+        (self.python / "python3").write_bytes(f'#!/bin/sh\nexec {shlex.quote(sys.executable)} "$@"\n'.encode())
+        (self.python / "python3").chmod(0o755)
+        self.environment["PATH"] = f"{self.python}{os.pathsep}{self.environment['PATH']}"
+
+    def has_branches(self):
+        """Returns whether git has an option for the name of the first branch."""
+        version = re.findall(rb"\d+", self.git("--version"))
+        return [int(number) for number in version[:2]] >= [2, 28]
+
+    def hook(self):
+        """Installs the hook."""
+        self.tool("staged", "--install")
+
+    def commit(self, *words, status=0, env=None):
+        """Commits, and returns the messages."""
+        options = {"env": env} if env else {}
+        return self.call(["git", "commit", "-qm", "one", *words], status, **options).stderr.decode()

@@ -1,0 +1,283 @@
+"""Tests plistconv-canonicalise: which files it replaces, and what it keeps of them."""
+from __future__ import annotations
+
+import os
+import resource
+import shlex
+import shutil
+import stat
+import struct
+import sys
+import time
+import unittest
+from pathlib import Path
+
+from testing import ARCHIVE, OTHER, PROGRAM, SAME, TEXT, TOOLS, TWICE, XML, Case
+
+
+ACL = "system.posix_acl_access"
+USER, OTHER_USER = 12345, 23456
+
+
+def acl(*entries) -> bytes:
+    """Returns an access control list of entries (tag, rights, user or group)."""
+    return struct.pack("<I", 2) + b"".join(struct.pack("<HHI", *entry) for entry in entries)
+
+
+OWNED_BY_OTHERS = acl((1, 6, 2**32 - 1), (2, 4, OTHER_USER), (4, 4, 2**32 - 1), (16, 4, 2**32 - 1), (32, 0, 2**32 - 1))
+
+
+class Canonicalise(Case):
+    """Files that are replaced."""
+
+    def changing(self, line: str) -> dict:
+        """Returns an environment in which the program does what the line says before it answers."""
+        script = f"#!/bin/sh\n{line}\nexec {shlex.quote(PROGRAM)} \"$@\"\n"
+        self.put("bin/program", script.encode()).chmod(0o755)
+        return {**self.environment, "PLISTCONV": str(self.folder / "bin" / "program")}
+
+    def patched(self, lines: str, *words, status=0) -> bytes:
+        """Runs the command after these lines of Python, and returns its messages."""
+        tool = str(TOOLS / "plistconv-canonicalise")
+        code = f"import os, runpy, sys\n{lines}\nsys.argv[0] = {tool!r}\nrunpy.run_path({tool!r}, run_name='__main__')"
+        return self.call([sys.executable, "-B", "-c", code, *words], status).stderr
+
+    def test_files_become_canonical_and_keep_their_modes(self):
+        names = []
+        for number, octets in enumerate((TEXT, SAME, self.canonical(OTHER), XML)):
+            names.append(f"{number} a.plist")
+            self.put(names[-1], octets).chmod(0o640)
+        self.prints(b"", "canonicalise", "--from-xml", *names)
+        self.assertEqual(self.left(), names)
+        for name in names:
+            path = self.folder / name
+            self.assertEqual(stat.S_IMODE(path.stat().st_mode), 0o640)
+            self.call([PROGRAM, "check", name])
+
+    def owned(self, name: str, owner: int, group: int, mode: int) -> Path:
+        """Makes a file of this owner and group."""
+        path = self.put(name, TEXT)
+        try:
+            os.chown(str(path), owner, group)
+        except OSError:
+            self.skipTest("skipped: owners cannot be changed here")
+        path.chmod(mode)
+        return path
+
+    def test_owner_and_group_are_kept_if_the_system_allows_it(self):
+        path = self.owned("a", USER, OTHER_USER, 0o4750)
+        self.prints(b"", "canonicalise", "a")
+        after = path.stat()
+        self.assertEqual((after.st_uid, after.st_gid, stat.S_IMODE(after.st_mode)), (USER, OTHER_USER, 0o4750))
+
+    def test_file_whose_owner_or_group_cannot_be_kept_is_left_unless_forced(self):
+        no_owner = "old = os.fchown\ndef fchown(file, owner, group):\n    if owner != -1: raise PermissionError(1, 'no')\n" \
+                   "    old(file, owner, group)\nos.fchown = fchown"
+        none = "def fchown(*_): raise PermissionError(1, 'no')\nos.fchown = fchown"
+        for lines, lost, owners in ((no_owner, "owner", (os.geteuid(), OTHER_USER)),
+                                    (none, "owner and group", (os.geteuid(), os.getegid()))):
+            path = self.owned("a", USER, OTHER_USER, 0o6755)
+            before = path.stat()
+            said = self.patched(lines, "a", status=1)
+            self.assertIn(f"a: its {lost} cannot be kept (--force replaces it); left as it is".encode(), said)
+            self.assertEqual((path.read_bytes(), path.stat(), self.left()), (TEXT, before, ["a"]))
+            said = self.patched(lines, "--force", "a")
+            for what in lost.split(" and "):
+                self.assertIn(f"a: replaced without its {what}\n".encode(), said)
+            after = path.stat()
+            self.assertEqual((after.st_uid, after.st_gid), owners)
+            self.assertEqual((stat.S_IMODE(after.st_mode), path.read_bytes()), (0o755, self.canonical(TEXT)))
+        # The owner of a file system without owners is always the same.
+        self.put("b", TEXT)
+        self.assertEqual(self.patched(none, "b"), b"")
+
+    def attributes(self, path, **set_to) -> dict:
+        """Sets extended attributes of a file and returns all of them."""
+        if not hasattr(os, "setxattr"):
+            self.skipTest("skipped: there are no extended attributes")
+        try:
+            for name, value in set_to.items():
+                os.setxattr(str(path), name.replace("_of_", "."), value)
+        except OSError:
+            self.skipTest("skipped: no extended attributes here")
+        return {name: os.getxattr(str(path), name) for name in os.listxattr(str(path))}
+
+    def test_extended_attributes_are_kept_or_named(self):
+        path = self.put("a", TEXT)
+        before = self.attributes(path, user_of_comment=b"\0one", user_of_empty=b"")
+        self.prints(b"", "canonicalise", "a")
+        self.assertEqual(self.attributes(path), before)
+        path.write_bytes(TEXT)
+        said = self.patched("def fails(*_): raise PermissionError(1, 'no')\nos.setxattr = fails", "a")
+        for name in ("comment", "empty"):
+            self.assertIn(f"a: replaced without its extended attribute user.{name}\n".encode(), said)
+        self.assertEqual((path.read_bytes(), self.attributes(path)), (self.canonical(TEXT), {}))
+
+    def test_access_control_lists_are_kept_and_those_of_the_folder_not_taken(self):
+        path = self.put("a", TEXT)
+        self.attributes(path, system_of_posix_acl_access=OWNED_BY_OTHERS)
+        self.prints(b"", "canonicalise", "a")
+        self.assertEqual(self.attributes(path), {ACL: OWNED_BY_OTHERS})
+        self.assertEqual(stat.S_IMODE(path.stat().st_mode), 0o640)
+        path = self.put("b", TEXT)
+        path.chmod(0o640)
+        os.setxattr(str(self.folder), "system.posix_acl_default", OWNED_BY_OTHERS)
+        self.prints(b"", "canonicalise", "b")
+        self.assertEqual((self.attributes(path), stat.S_IMODE(path.stat().st_mode)), ({}, 0o640))
+
+    def test_file_that_changes_meanwhile_is_left(self):
+        path = self.put("a", TEXT)
+        for line in (f"printf '{{b=a;a=c;}}\\n' > a", "rm a; echo '(new)' > a", "chmod 600 a; chmod 640 a", "rm a",
+                     "rm a; ln -s b a", "mv a c; mkdir a"):
+            self.put("a", TEXT)
+            self.put("b", TEXT)
+            self.refuses("; left as it is", "canonicalise", "a", env=self.changing(line))
+            changed = path.read_bytes() if path.is_file() else None
+            self.assertIn(changed, (None, TEXT, OTHER, b"(new)\n"))
+            self.assertFalse([name for name in self.left() if name.startswith(".")])
+            shutil.rmtree(str(path)) if path.is_dir() else path.exists() and path.unlink()
+        self.put("a", TEXT)
+        self.refuses("a: changed meanwhile; left as it is", "canonicalise", "a", env=self.changing("echo >> a"))
+        self.assertEqual(path.read_bytes().rstrip(b"\n") + b"\n", TEXT)
+
+    def test_what_killed_commands_left_is_removed_after_a_day(self):
+        day = 24 * 60 * 60
+        for name, age in ((".plistconv-abcd_123", day + 60), (".plistconv-abcd_124", day - 60), (".plistconv-x", 9 * day),
+                          (".plistconv-abcd_1234", 9 * day), ("x.plistconv-abcd_123", 9 * day)):
+            path = self.put(name, b"half")
+            os.utime(str(path), (time.time() - age, time.time() - age))
+        self.put(".plistconv-folder__/a", self.canonical(TEXT))
+        os.utime(str(self.folder / ".plistconv-folder__"), (0, 0))
+        self.put("a", self.canonical(TEXT))
+        self.prints(b"", "canonicalise", "a")
+        self.assertEqual(self.left(), [".plistconv-abcd_1234", ".plistconv-abcd_124", ".plistconv-folder__",
+                                       ".plistconv-folder__/a", ".plistconv-x", "a", "x.plistconv-abcd_123"])
+
+    def test_canonical_files_are_not_touched(self):
+        before = self.put("a", self.canonical(TEXT)).stat()
+        self.prints(b"", "canonicalise", "a")
+        after = (self.folder / "a").stat()
+        self.assertEqual((after.st_ino, after.st_mtime_ns), (before.st_ino, before.st_mtime_ns))
+
+    def test_files_of_one_word_or_of_none_are_left(self):
+        comments = b"// { all }\n", b"/* { */ /**/", "// é\u2028 // {".encode(), "/* é { */".encode("utf-16")
+        for octets in (b"", b"\n", b"word", b"0123abc\n", b'"a b"', b"<00>", *comments):
+            path = self.put("a", octets)
+            self.refuses("one word or of none", "canonicalise", "a")
+            self.assertEqual(path.read_bytes(), octets)
+            self.prints(b"", "canonicalise", "--any", "a")
+            self.call([PROGRAM, "check", "a"])
+        for octets in (b"{}", b"()", b"/* */ {/**/}", b"a=b;", "{}".encode("utf-16"), b"(" + b"word," * 9000 + b")"):
+            self.put("a", octets)
+            # However long it prints.
+            self.prints(b"", "canonicalise", "a", env={**self.environment, "PLISTCONV_PRINT_LIMIT": "1"})
+            self.call([PROGRAM, "check", "a"])
+
+    def test_what_is_refused_is_left_and_the_others_are_made(self):
+        for name, octets in (("archive", ARCHIVE), ("twice", TWICE), ("xml", XML), ("a", TEXT)):
+            self.put(name, octets)
+        run = self.tool("canonicalise", "archive", "twice", "xml", "a", status=1)
+        self.assertEqual(run.stderr.count(b"left as it is"), 3)
+        for name, octets in (("archive", ARCHIVE), ("twice", TWICE), ("xml", XML), ("a", self.canonical(TEXT))):
+            self.assertEqual((self.folder / name).read_bytes(), octets)
+
+    def test_links_are_left_unless_they_are_followed(self):
+        path = self.put("folder/a", TEXT)
+        path.chmod(0o600)
+        for name, target in (("link", "folder/a"), ("second", "link"), ("dangling", "none"), ("way", "folder")):
+            os.symlink(target, str(self.folder / name))
+        for name in ("link", "second"):
+            self.refuses(f"{name}: is a symbolic link (--follow replaces the file that it points to); left as it is",
+                         "canonicalise", name)
+        self.assertEqual(path.read_bytes(), TEXT)
+        self.prints(b"", "canonicalise", "--follow", "second")
+        self.assertEqual(os.readlink(str(self.folder / "second")), "link")
+        self.assertEqual(path.read_bytes(), self.canonical(TEXT))
+        self.assertEqual(stat.S_IMODE(path.stat().st_mode), 0o600)
+        self.refuses("dangling: No such file", "canonicalise", "--follow", "dangling")
+        self.refuses("way: is no regular file", "canonicalise", "--follow", "way")
+        self.put("folder/a", SAME)
+        self.prints(b"", "canonicalise", "way/a")  # A folder may be a link.
+        self.assertEqual(path.read_bytes(), self.canonical(SAME))
+        self.assertEqual(self.left(), ["dangling", "folder", "folder/a", "link", "second", "way"])
+
+    def test_pipes_and_folders_are_left(self):
+        os.mkfifo(str(self.folder / "pipe"))
+        for name in ("pipe", ".", "/dev/stdin"):
+            self.refuses("is no regular file", "canonicalise", "--from-xml", name, input=TEXT)
+        with open(str(self.put("a", TEXT)), "rb") as file:
+            self.refuses("is no regular file", "canonicalise", "/dev/stdin", stdin=file)
+        self.assertEqual((self.folder / "a").read_bytes(), TEXT)
+        self.assertTrue(stat.S_ISFIFO((self.folder / "pipe").stat().st_mode))
+
+    def test_devices_stay_devices(self):
+        node = self.node("device")
+        self.refuses("is no regular file", "canonicalise", "--from-xml", "device")
+        self.assertTrue(stat.S_ISCHR(node.stat().st_mode))
+        with node.open("wb") as device:
+            self.tool("canonicalise", "-", stdout=device, input=TEXT)
+        self.assertTrue(stat.S_ISCHR(node.stat().st_mode))
+
+    def test_dash_converts_standard_input_to_standard_output(self):
+        self.prints(self.canonical(TEXT), "canonicalise", "-", input=SAME)
+        self.refuses("-: refused 14", "canonicalise", "-", input=TWICE)
+
+    def test_out_is_written_in_one_step(self):
+        before = self.put("a", TEXT)
+        mask = os.umask(0o027)
+        self.addCleanup(os.umask, mask)
+        self.prints(b"", "canonicalise", "-o", "out", "a")
+        out = self.folder / "out"
+        self.assertEqual((out.read_bytes(), before.read_bytes()), (self.canonical(TEXT), TEXT))
+        self.assertEqual(stat.S_IMODE(out.stat().st_mode), 0o640)
+        out.chmod(0o604)
+        self.prints(b"", "canonicalise", "-o", "out", "--from-xml", "-", input=XML)
+        self.assertEqual(stat.S_IMODE(out.stat().st_mode), 0o604)
+        self.assertEqual(out.read_bytes(), self.tool("canonicalise", "--from-xml", "-", input=XML).stdout)
+        self.prints(self.canonical(OTHER), "canonicalise", "-o", "-", "/dev/stdin", input=OTHER)
+        self.prints(b"", "canonicalise", "-o", "a", "--", "a")
+        self.assertEqual(before.read_bytes(), self.canonical(TEXT))
+        self.assertEqual(self.left(), ["a", "out"])
+
+    def test_out_stays_if_the_file_is_refused_or_it_cannot_be_written(self):
+        out = self.put("out", b"old")
+        os.symlink("none", str(self.folder / "dangling"))
+        os.symlink("out", str(self.folder / "link"))
+        for name, octets in (("a", TEXT), ("twice", TWICE), ("word", b"word")):
+            self.put(name, octets)
+        left = self.left()
+        self.refuses("twice: refused 14 DuplicateKey at octet 3; not converted", "canonicalise", "-o", "out", "twice")
+        self.refuses("word: a text of one word", "canonicalise", "-o", "out", "word")
+        self.refuses("none: No such file or directory; not converted", "canonicalise", "-o", "out", "none")
+        for name in (".", "none/out", "dangling", "link", ""):
+            self.refuses(f"{name}: ", "canonicalise", "-o", name, "a")
+        self.refuses("with -o there is one FILE", "canonicalise", "-o", "out", "a", "a", status=2)
+        limit = lambda: resource.setrlimit(resource.RLIMIT_FSIZE, (16, 16))  # noqa: E731
+        for name in ("out", "new"):
+            self.refuses(f"{name}: File too large; not written", "canonicalise", "-o", name, "a", preexec_fn=limit)
+        self.refuses("out: changed meanwhile; not written", "canonicalise", "-o", "out", "a", env=self.changing("touch out"))
+        shutil.rmtree(str(self.folder / "bin"))
+        self.assertEqual((out.read_bytes(), self.left()), (b"old", left))
+        self.prints(b"", "canonicalise", "-o", "link", "--follow", "a")
+        self.assertEqual(out.read_bytes(), self.canonical(TEXT))
+
+    def test_full_disk_leaves_the_file_as_it_was(self):
+        path = self.put("a", TEXT)
+        limit = lambda: resource.setrlimit(resource.RLIMIT_FSIZE, (16, 16))  # noqa: E731
+        self.refuses("a: File too large; left as it is", "canonicalise", "a", preexec_fn=limit)
+        self.assertEqual((path.read_bytes(), self.left()), (TEXT, ["a"]))
+
+    def test_signal_leaves_the_file_as_it_was_and_nothing_beside_it(self):
+        path = self.put("a", TEXT)
+        for name, status in (("SIGTERM", 143), ("SIGINT", 130), ("SIGHUP", 129)):
+            said = self.patched(f"import signal\nos.fsync = lambda file: os.kill(os.getpid(), signal.{name})", "a",
+                                status=status)
+            self.assertEqual((said, path.read_bytes(), self.left()), (b"", TEXT, ["a"]))
+        renamed = "import signal\nold = os.replace\ndef replace(*names):\n    old(*names)\n" \
+                  "    os.kill(os.getpid(), signal.SIGTERM)\nos.replace = replace"
+        self.assertEqual(self.patched(renamed, "a", status=143), b"")
+        self.assertEqual((path.read_bytes(), self.left()), (self.canonical(TEXT), ["a"]))
+
+
+if __name__ == "__main__":
+    unittest.main()
