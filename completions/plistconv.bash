@@ -7,17 +7,21 @@ _plistconv_topics='
     C1 C2 C3 C4 C5 C6 C7
 '
 _plistconv() {
-    local word=${COMP_WORDS[COMP_CWORD]}
+    local word=${COMP_WORDS[COMP_CWORD]} commands='convert same lint check print explain' offered=
     COMPREPLY=()
-    if [ "$COMP_CWORD" -eq 1 ]; then
-        COMPREPLY=($(compgen -W 'convert same lint check print explain help --help --version' -- "$word"))
-    elif [ "${COMP_WORDS[1]}" = convert ] && [ "$COMP_CWORD" -eq 2 ]; then
-        COMPREPLY=($(compgen -W 'binary1 openstep --help' -- "$word"))
-    elif [ "${COMP_WORDS[1]}" = explain ]; then
-        [ "$COMP_CWORD" -gt 2 ] || COMPREPLY=($(compgen -W "$_plistconv_topics" -- "$word"))
-    else
-        compopt -o filenames
-        mapfile -t COMPREPLY < <(compgen -f -- "$word")
-    fi
+    case $COMP_CWORD-${COMP_WORDS[1]} in
+        1-*) offered="$commands help --help --version" ;;
+        2-convert) offered='binary1 openstep --help' ;;
+        2-explain) offered=$_plistconv_topics ;;
+        2-help) offered=$commands ;;
+        *-explain | *-help) ;;
+        *)
+            compopt -o filenames
+            mapfile -t COMPREPLY < <(compgen -f -- "$word")
+            COMPREPLY=("${COMPREPLY[@]/#-/./-}") # so that no name is taken for an option
+            [[ $word != -* ]] || offered=--help
+            ;;
+    esac
+    COMPREPLY+=($(compgen -W "$offered" -- "$word"))
 }
 complete -F _plistconv plistconv
