@@ -265,15 +265,43 @@ class Module(unittest.TestCase):
     def test_examples(self):
         self.assertEqual(doctest.testmod(plistconv).failed, 0)
 
-    def test_missing_library(self):
-        environment = dict(os.environ, PLISTCONV_LIBRARY="/nowhere/libplistconv.so")
+    def fault_of_import(self, library, lines=""):
+        """Returns the last line that an import of the module prints, after these lines, with this library."""
+        environment = dict(os.environ, PLISTCONV_LIBRARY=library)
         environment["PYTHONPATH"] = os.path.dirname(os.path.dirname(plistconv.__file__))
-        ended = subprocess.run([sys.executable, "-c", "import plistconv"], env=environment, capture_output=True)
-        last = ended.stderr.decode().splitlines()[-1]
+        code = f"import ctypes\n{lines}\nimport plistconv"
+        ended = subprocess.run([sys.executable, "-c", code], env=environment, capture_output=True)
         self.assertEqual(ended.returncode, 1)
-        self.assertIn("ImportError", last)
-        self.assertIn("PLISTCONV_LIBRARY", last)
-        self.assertIn("/nowhere/libplistconv.so", last)
+        last = ended.stderr.decode().splitlines()[-1]
+        for part in ["ImportError", "PLISTCONV_LIBRARY", library]:
+            self.assertIn(part, last)
+        return last
+
+    def test_missing_library(self):
+        self.fault_of_import("/nowhere/libplistconv.so")
+
+    def test_wrong_library(self):
+        last = self.fault_of_import("libc.so.6")
+        self.assertIn("libc.so.6 is no library libplistconv: ", last)
+        self.assertIn("plistconv_version", last)
+
+    def test_old_and_incomplete_library(self):
+        fake = """class Library:
+    def __init__(self, name): pass
+    def __getattr__(self, name):
+        if name != "plistconv_version": raise AttributeError("no symbol " + name)
+        self.plistconv_version = version
+        return version
+def version(): return %s
+ctypes.CDLL = Library"""
+        wanted = f"plistconv {plistconv.__version__} needs libplistconv {plistconv.__version__} or later"
+        last = self.fault_of_import("old.so", fake % "200")
+        self.assertIn(f"old.so has version 0.2.0, which is too old: {wanted}", last)
+        last = self.fault_of_import("part.so", fake % "99_99_99")
+        self.assertIn("part.so, version 99.99.99, is incomplete: no symbol plistconv_canonical", last)
+
+    def test_order_of_versions(self):
+        self.assertLess(plistconv._numbers("0.9.0"), plistconv._numbers("0.10.0"))
 
 
 class Threads(unittest.TestCase):

@@ -25,7 +25,8 @@ collide. `key` is another key of 16 bytes; 16 zeros are a fixed seed, which is f
 The functions may be called from any thread. The library needs up to 1 MiB of stack; in a thread with less, a call runs
 in a thread of its own. A stack that is nearly used up, as by deep recursion in C, is not noticed.
 
-The library is the file that the environment variable PLISTCONV_LIBRARY names, else libplistconv.so.1 of the system.
+The library is the file that the environment variable PLISTCONV_LIBRARY names, else libplistconv.so.1 of the system. If
+there is none, or it is older than the module, importing it raises `ImportError`.
 """
 from __future__ import annotations
 
@@ -140,12 +141,42 @@ class Finding:
         return self.canonical
 
 
+def _version_of(library: Any) -> str:
+    """Returns the version of a library, such as 0.3.0."""
+    library.plistconv_version.argtypes = []
+    library.plistconv_version.restype = ctypes.c_uint32
+    number = library.plistconv_version()
+    return f"{number // 10_000}.{number // 100 % 100}.{number % 100}"
+
+
+def _numbers(version: str) -> List[int]:
+    """Returns the numbers of a version, which are in its order."""
+    return [int(number) for number in version.split(".")]
+
+
 def _load() -> Any:
+    """Returns the library. Raises `ImportError` if there is none, or one without the functions of this version."""
+    name = os.environ.get("PLISTCONV_LIBRARY", "libplistconv.so.1")
+    way_out = "Install it, or set the environment variable PLISTCONV_LIBRARY to the path of libplistconv.so"
     try:
-        library = ctypes.CDLL(os.environ.get("PLISTCONV_LIBRARY", "libplistconv.so.1"))
+        library = ctypes.CDLL(name)
     except OSError as fault:
-        raise ImportError(f"plistconv needs the C library libplistconv: {fault}. Install it, or set the environment "
-                          "variable PLISTCONV_LIBRARY to the path of libplistconv.so") from fault
+        raise ImportError(f"plistconv needs the C library libplistconv: {fault}. {way_out}") from fault
+    try:
+        version = _version_of(library)
+    except AttributeError as fault:
+        raise ImportError(f"{name} is no library libplistconv: {fault}. {way_out}") from fault
+    wanted = f"plistconv {__version__} needs libplistconv {__version__} or later. {way_out}"
+    if _numbers(version) < _numbers(__version__):
+        raise ImportError(f"{name} has version {version}, which is too old: {wanted}")
+    try:
+        return _with_types(library)
+    except AttributeError as fault:
+        raise ImportError(f"{name}, version {version}, is incomplete: {fault}. {wanted}") from fault
+
+
+def _with_types(library: Any) -> Any:
+    """Returns the library with the types of its functions. Raises `AttributeError` if it does not have one of them."""
     octets, size, key, refusal = ctypes.c_char_p, ctypes.c_size_t, ctypes.c_char_p, ctypes.POINTER(_Refusal)
     into = [ctypes.c_void_p, size, ctypes.POINTER(size)]
     for name, arguments in {
@@ -160,8 +191,6 @@ def _load() -> Any:
         function = getattr(library, name)
         function.argtypes = arguments
         function.restype = ctypes.c_uint8
-    library.plistconv_version.argtypes = []
-    library.plistconv_version.restype = ctypes.c_uint32
     return library
 
 
@@ -307,5 +336,4 @@ def check(octets: Octets, key: Optional[Octets] = None) -> Finding:
 
 def library_version() -> str:
     """Returns the version of the library that is loaded; that of this module is `__version__`."""
-    number = _library.plistconv_version()
-    return f"{number // 10_000}.{number // 100 % 100}.{number % 100}"
+    return _version_of(_library)
