@@ -1,8 +1,8 @@
-# Proves the crates, each after those that it uses, JOBS of them in parallel (by default one per processor). A proved
-# crate leaves out/NAME.proved, so an interrupted `make` resumes with the next crate; within a crate, the toolchain
-# resumes. Tests are not proved. out/NAME.log has the output of the prover.
+# Proves the crates, each after those that it uses, JOBS of them in parallel (by default one per processor and 6 GB of
+# memory). A proved crate leaves out/NAME.proved, so an interrupted `make` resumes with the next crate; within a crate,
+# the toolchain resumes. Tests are not proved. out/NAME.log has the output of the prover.
 RT ?= rt
-JOBS ?= $(shell nproc)
+JOBS ?= $(shell scripts/jobs.sh)
 ifeq ($(MAKELEVEL),0)
 MAKEFLAGS += --jobs=$(JOBS)
 endif
