@@ -235,6 +235,7 @@ def version_faults():
     for file, before in (
         ("man/plistconv.1", '"plistconv '),
         ("man/plistconv-tools.1", '"plistconv '),
+        ("tools/plistconv_tools.py", 'VERSION = "'),
         ("include/plistconv.h", 'PLISTCONV_VERSION "'),
         ("bindings/python/plistconv/__init__.py", '__version__ = "'),
         ("examples/rust/Cargo.toml", 'version = "'),
