@@ -191,7 +191,7 @@ def own_places() -> list[str]:
     folder = os.path.dirname(os.path.realpath(__file__))
     if os.path.isfile(os.path.join(folder, "..", "crates.txt")):
         places.append(os.path.join(folder, "..", "plistconv"))
-    elif folder.endswith(os.path.join("", "share", "plistconv", "tools")):
+    elif folder.endswith("/share/plistconv/tools"):
         places.append(os.path.join(folder, "..", "..", "..", "bin", "plistconv"))
     return places
 

@@ -1,0 +1,59 @@
+"""Tests what the pages say about the commands, and how many jobs `make` runs."""
+from __future__ import annotations
+
+import os
+import re
+import unittest
+
+from testing import COMMANDS, TOP, Case
+
+
+def page(name: str) -> str:
+    """Returns a page as a reader sees it."""
+    text = (TOP / name).read_text(encoding="utf-8")
+    return text.replace("\\-", "-").replace("\\(aq", "'").replace("\\en", "\\n") if name.startswith("man/") else text
+
+
+class Pages(Case):
+    """The pages and the help of the commands."""
+
+    def test_lines_for_git_are_the_same_everywhere(self):
+        recipes, manual = page("docs/RECIPES.md"), page("man/plistconv-tools.1")
+        lines = [re.search(f"(?m)^    ({start}.*)$", recipes)[1]
+                 for start in ("git config", "echo", "plistconv-staged", "git ls-files")]
+        self.assertEqual(lines[1], "echo '*.plist -text diff=plist' >> .gitattributes")
+        for line in lines:
+            self.assertIn(f"\n{line}\n", manual)
+        for name, line in (("textconv", lines[0]), ("textconv", lines[1]), ("staged", lines[2]), ("canonicalise", lines[3])):
+            self.assertIn(f"  {line}\n", self.tool(name, "--help").stdout.decode())
+
+    def test_manual_has_every_option(self):
+        manual = page("man/plistconv-tools.1")
+        for name in COMMANDS:
+            for option in re.findall(r"--[a-z-]+", self.tool(name, "--help").stdout.decode()):
+                self.assertIn(option, manual, name)
+
+    def test_pages_say_what_converters_of_xml_differ_in(self):
+        for name in ("docs/RECIPES.md", "man/plistconv.1"):
+            text = " ".join(page(name).split())
+            for word in ("CR LF", "base64", "duplicate key", "64 bits", "second value", "fraction", "8 bytes", "4 bytes"):
+                self.assertIn(word, text, name)
+            first, second, third = (text.index(word) for word in
+                                    ("plistconv-canonicalise --from-xml", "plistutil -i", "plutil -convert"))
+            self.assertTrue(first < second < third, name)
+            self.assertRegex(text, r"plutil -convert binary1 -o OUT IN *[(#] ?macOS")
+
+
+class Jobs(Case):
+    """scripts/jobs.sh"""
+
+    def test_jobs_follow_memory_and_processors(self):
+        processors = len(os.sched_getaffinity(0)) if hasattr(os, "sched_getaffinity") else os.cpu_count()
+        for kilobytes, jobs in ((1, 1), (8_000_000, 1), (16_300_000, 2), (24_700_000, 4), (10**12, processors)):
+            memory = self.put("memory", b"MemFree: 7 kB\nMemTotal:       %d kB\n" % kilobytes)
+            printed = self.call([str(TOP / "scripts" / "jobs.sh"), str(memory)]).stdout
+            self.assertEqual(printed, b"%d\n" % min(jobs, processors))
+
+
+if __name__ == "__main__":
+    unittest.main()
