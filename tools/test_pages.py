@@ -24,6 +24,7 @@ class Pages(Case):
         self.assertEqual(lines[1], "echo '*.plist -text diff=plist' >> .gitattributes")
         for line in lines:
             self.assertIn(f"\n{line}\n", manual)
+        self.assertIn("\n.B *.plist -text diff=plist\n", page("man/plistconv.1"))
         for name, line in (("textconv", lines[0]), ("textconv", lines[1]), ("staged", lines[2]), ("canonicalise", lines[3])):
             self.assertIn(f"  {line}\n", self.tool(name, "--help").stdout.decode())
 
