@@ -5,22 +5,18 @@ the system allows. No command makes a temporary file, except beside a file that 
 """
 from __future__ import annotations
 
+import argparse
+import errno
+import os
+import re
+import shutil
 import signal
-
-if signal.getsignal(signal.SIGINT) is signal.default_int_handler:
-    signal.signal(signal.SIGINT, signal.SIG_DFL)  # An interrupt of the imports below prints no traceback.
-
-import argparse  # noqa: E402
-import errno  # noqa: E402
-import os  # noqa: E402
-import re  # noqa: E402
-import shutil  # noqa: E402
-import subprocess  # noqa: E402
-import sys  # noqa: E402
-import threading  # noqa: E402
-from contextlib import contextmanager  # noqa: E402
-from functools import lru_cache  # noqa: E402
-from typing import IO, Callable, Iterator, NoReturn  # noqa: E402
+import subprocess
+import sys
+import threading
+from contextlib import contextmanager
+from functools import lru_cache
+from typing import IO, Callable, Iterator, NoReturn
 
 VERSION = "0.3.0"
 COMMAND = os.path.basename(sys.argv[0])

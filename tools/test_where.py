@@ -1,7 +1,6 @@
 """Tests plistconv-where."""
 from __future__ import annotations
 
-import plistlib
 import unittest
 
 from testing import PROGRAM, TEXT, Case
@@ -55,13 +54,12 @@ class Objects(Case):
         self.prints(f"f: object {number} begins at byte {where}\n{path}\n".encode(), "where", "f", "object", str(number))
 
     def test_archive_whose_uid_is_refused(self):
-        value = {"$top": {"root": plistlib.UID(1)}, "objects": [{"isa": "x"}, [], {"a b": 1}, {"isa": plistlib.UID(300)}]}
-        octets = self.put("f", plistlib.dumps(value, fmt=plistlib.FMT_BINARY)).read_bytes()
+        octets = binary(b"\xd2\1\2\3\4", b"T$top", b"Wobjects", b"\xd1\5\6", b"\xa4\7\7\7\x08", b"Troot", b"\x80\1", b"\x09",
+                        b"\xd1\x09\x0a", b"Sisa", b"\x81\1\x2c")
+        self.put("f", octets)
         number = int(self.call([PROGRAM, "lint", "f"], 2).stdout.split()[-1])
-        self.finds(octets, number, f"{octets.index(bytes([0x80, 1]))}: 80, a UID of 1 byte", 'root["$top"].root')
-        last = octets.index(b"\x81\x01\x2c")
-        at = list(octets[-32 - octets[-17]:-32]).index(last)
-        self.finds(octets, at, f"{last}: 81, a UID of 2 bytes", "root.objects[3].isa")
+        self.finds(octets, number, "39: 80, a UID of 1 byte", 'root["$top"].root')
+        self.finds(octets, 10, "49: 81, a UID of 2 bytes", "root.objects[3].isa")
 
     def test_paths(self):
         octets = binary(b"\xd2\1\2\3\4", b"Sisa", b"T\"\x7f a", b"\xa2\5\6", b"\xd1\6\5", b"\x09", b"\x11\1\2", b"\x08")
