@@ -11,8 +11,14 @@ MOST = 1 << 24  # the most references that are followed
 LONGEST = 60  # the most characters of a key that are shown
 NAMES = {0x00: "a null", 0x08: "false", 0x09: "true", 0x22: "a real of 4 bytes", 0x23: "a real of 8 bytes",
          0x33: "a date"}
-COUNTED = {0x4: ("data of", "byte", 1), 0x5: ("a string of", "ASCII character", 1), 0x6: ("a string of", "UTF-16 unit", 2),
-           0xA: ("an array of", "item", 0), 0xC: ("a set of", "item", 0), 0xD: ("a dictionary of", "pair", 0)}
+COUNTED = {  # by the high half of the marker: the words, and the bytes of a unit, or 0 for references
+    0x4: ("data of", "byte", 1),
+    0x5: ("a string of", "ASCII character", 1),
+    0x6: ("a string of", "UTF-16 unit", 2),
+    0xA: ("an array of", "item", 0),
+    0xC: ("a set of", "item", 0),
+    0xD: ("a dictionary of", "pair", 0),
+}
 TABLE = 0xD
 FORMS = {1: "B", 2: "H", 4: "I", 8: "Q"}  # of references, by width
 CONTAINERS = (0xA, 0xC, TABLE)

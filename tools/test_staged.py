@@ -165,7 +165,7 @@ class Staged(Repository):
         self.put("k.plist", ARCHIVE)
         self.put("settings", TEXT)
         self.git("add", "k.plist", "settings")
-        self.refuses("a line of .gitattributes, and git add .gitattributes: /k.plist -plistconv", "staged")
+        self.refuses("add this line to .gitattributes, and git add .gitattributes: /k.plist -plistconv", "staged")
         self.put(".gitattributes", b"k.plist -plistconv\nsettings plistconv\n")
         self.refuses("k.plist: refused 9", "staged")
         self.git("add", ".gitattributes")
@@ -204,7 +204,7 @@ class Staged(Repository):
             run = self.tool("staged", "--all", status=1)
             for name, fix in (("a.plist", "*.plist -text diff=plist"), ("Settings", "/Settings -text diff=plist")):
                 self.assertIn(f"{name}: {said}\n".encode(), run.stderr)
-                self.assertIn(f"the last line of .gitattributes, and git add .gitattributes: {fix}\n".encode(), run.stderr)
+                self.assertIn(f"end .gitattributes with this line, and git add .gitattributes: {fix}\n".encode(), run.stderr)
         fixes = "*.plist -text diff=plist\n/Settings -text diff=plist\n"
         for line in ("* text\nSettings plistconv\n" + fixes, "* text=auto eol=crlf\nSettings plistconv\n", "* -text eol=crlf\n",
                      "* -crlf\n", "* diff=plist\n"):
@@ -257,7 +257,7 @@ class Staged(Repository):
         self.put("b.plist", OTHER)
         (self.folder / "c.plist").unlink()
         said = self.tool("staged", status=1).stderr.decode()
-        more = "the work tree has another content, and git add takes all of it"
+        more = "differs in the work tree, and git add stages all of it"
         self.assertEqual(re.findall(f"(?m)(.): {more}$".replace("(.)", "(.*)"), said),
                          ["plistconv-staged: b.plist", "plistconv-staged: c.plist"])
 
@@ -272,7 +272,7 @@ class Staged(Repository):
             run = self.tool("staged", status=1, env=env, cwd=str(self.folder / folder))
             self.assertIn(b"staged: sub/a.plist: an OpenStep", run.stderr)
             self.assertNotIn(b"k.plist", run.stderr)
-            self.assertNotIn(b"another content", run.stderr)
+            self.assertNotIn(b"differs in the work tree", run.stderr)
 
     def test_file_that_is_only_intended_to_be_added_is_no_fault(self):
         self.put("a.plist", TEXT)
