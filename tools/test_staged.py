@@ -202,6 +202,7 @@ class Staged(Repository):
             self.put(".gitattributes", f"* {line}\nSettings plistconv\n".encode())
             self.git("add", "-A")
             run = self.tool("staged", "--all", status=1)
+            self.assertNotIn(b"to commit a file as it is", run.stderr)  # (it may be broken already)
             for name, fix in (("a.plist", "*.plist -text diff=plist"), ("Settings", "/Settings -text diff=plist")):
                 self.assertIn(f"{name}: {said}\n".encode(), run.stderr)
                 self.assertIn(f"end .gitattributes with this line, and git add .gitattributes: {fix}\n".encode(), run.stderr)
