@@ -32,7 +32,10 @@ a file is, and to write the canonical file of a text:
 The last 32 bytes, the trailer, say how many objects the file has, which one is
 the top, and where the table of their offsets is. Here this does not fit the
 length of the file, for example because bytes are missing at the end or were
-added there. Fetch the file again; a transfer as text damages it.",
+added there. Fetch the file again; a transfer as text damages it. So does git
+on checkout if .gitattributes has `*.plist text` or eol=crlf, which change line
+ends. Write `*.plist -text` there, and check the file out again:
+  rm FILE && git checkout FILE",
     ),
     (
         Subject::Refusal(Refusal::BadOffset),
@@ -172,21 +175,30 @@ Keep long data in files of their own, and write the names of these files.",
         "the text is not in UTF-8",
         "\
 A text is read as UTF-8, or as UTF-16 if it begins with a byte order mark. At
-the byte named there is no character of UTF-8. A picture, or any other file
-that is no property list, is refused like this too. Old texts are often in
-Latin-1 or MacRoman: try both, and keep the one whose letters are right.
+the byte named there is no character of UTF-8. A picture, a zip archive, or any
+other file that is no property list, is refused like this too. If it was made
+by gzip:
+  gunzip < FILE > OUT
+If it begins with <?xml, it is XML in another encoding, which its first line
+names. iconv leaves that line as it is, so that letters go wrong later. Use
+  plistconv-canonicalise --from-xml - < FILE > OUT
+Old texts are often in Latin-1 or MacRoman: try both, and keep the one whose
+letters are right.
   iconv -f LATIN1 -t UTF-8 FILE > OUT
   iconv -f MACINTOSH -t UTF-8 FILE > OUT",
     ),
     (
         Subject::Refusal(Refusal::XmlForm),
-        "an XML property list, which has to be made binary first",
+        "the text begins like XML, which has to be made binary first",
         "\
-plistconv does not read XML. Each of these makes the file binary. Always use
-the same one: plistutil writes 2.5 in 4 bytes, plistconv-canonicalise in 8.
-  plutil -convert binary1 -o OUT FILE
+It begins with <?xml, <!DOCTYPE or <plist, and plistconv does not read XML. If
+it begins with <!DOCTYPE html, it is a web page, such as servers send in place
+of a file: fetch the file again. Each of these makes an XML property list
+binary. Always use the same one: plistutil writes 2.5 in 4 bytes,
+plistconv-canonicalise in 8. The last is for macOS alone.
+  plistconv-canonicalise --from-xml - < FILE > OUT
   plistutil -i FILE -f bin -o OUT
-  plistconv-canonicalise --from-xml - < FILE > OUT",
+  plutil -convert binary1 -o OUT FILE",
     ),
     (
         Subject::Refusal(Refusal::UnexpectedCharacter),
@@ -194,6 +206,11 @@ the same one: plistutil writes 2.5 in 4 bytes, plistconv-canonicalise in 8.
         "\
 A string needs quotes if it has other characters than ASCII letters and digits
 and _ $ / : . - as in name = \"Tea + milk\"; the quotes must be straight ones.
+A comment begins with // or is between /* and */; # begins none. A text in
+UTF-16 without a byte order mark has bytes 00, and is refused like this too. To
+see such bytes, and to write the text in UTF-8 (some need -f UTF-16BE):
+  od -c FILE | head
+  iconv -f UTF-16LE -t UTF-8 FILE > OUT
 JSON, with its [ and ], is none of the forms that are read: have a program that
 reads JSON write a binary property list, as this does on macOS:
   plutil -convert binary1 -o OUT FILE",
@@ -243,8 +260,10 @@ blank may be between two bytes, but not between the digits of one.",
         "data has something other than hexadecimal digits, or no end",
         "\
 Data is written between < and > with two digits for each byte, as <0a1b 2c>. A
-string that begins with < needs quotes: \"<none>\". HTML is no property list, and
-numbers that GNUstep writes as <*I5> are not read.",
+string that begins with < needs quotes: \"<none>\". Seven < are the mark of a
+merge conflict: keep one of its sides, and delete the lines of <<<<<<<, =======
+and >>>>>>>. HTML is no property list, and numbers that GNUstep writes as <*I5>
+are not read.",
     ),
     (
         Subject::Refusal(Refusal::Expected),
@@ -262,7 +281,10 @@ have a program that reads JSON write a binary property list.",
         "\
 A text is one value, and there is more after it: a } too many, say, or a second
 value, which belongs in a file of its own. A string of several words needs
-quotes: \"two words\". A file that is no property list is refused like this too.",
+quotes: \"two words\". A file that is no property list is refused like this too:
+YAML, say, or a pointer of Git LFS, which begins with: version https://git-lfs
+In its place this fetches the file itself:
+  git lfs pull",
     ),
     (
         Subject::Refusal(Refusal::BadUtf16),

@@ -28,8 +28,8 @@ object last. To write the canonical file:
         "offsets and references have the least widths",
         "\
 A file of up to 255 objects refers to them in one byte each, and has offsets of
-one byte if the objects end before byte 256. Programs that always write two or
-four bytes break this rule. To write the canonical file:
+one byte if the offset table begins before byte 256. Programs that always write
+two or four bytes break this rule. To write the canonical file:
   plistconv convert binary1 FILE OUT",
     ),
     (
@@ -62,11 +62,11 @@ them, as 14. To write the canonical file:
     ),
     (
         Subject::Rule(6),
-        "no two objects are the same string, number, date or data",
+        "no two objects are the same string, number, boolean, date or data",
         "\
 A string that is used twice is there once, and both uses refer to it. Some
-programs write it each time. 1 and 1.0 are different numbers, as are reals of
-four and of eight bytes. To write the canonical file:
+programs write it, or true and false, each time. 1 and 1.0 are different
+numbers, as are reals of four and of eight bytes. To write the canonical file:
   plistconv convert binary1 FILE OUT",
     ),
     (
