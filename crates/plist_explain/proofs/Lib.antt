@@ -1,2 +1,5 @@
 pub mod Found
+pub mod Marks
+pub mod Quiet
+pub mod Reported
 pub mod Covered

@@ -5,21 +5,23 @@ ghost use Rattle.plist_explain.specs.Topics.{all_lines, entry_named, entry_of};
 ghost use Rattle.plist_explain.specs.Topics.{explained, explanation_of, line_of};
 ghost use Rattle.plist_explain.specs.Topics.{is_named, refusal_entries, rule_entries};
 
+use crate::naming::word_in;
 use crate::refusals::REFUSALS;
 use crate::rules::RULES;
 use crate::topics::Topic;
 use std::alloc::{AllocError, Global};
 
-/// Returns the explanation of the refusal or rule that the word names, such as `14`, `DuplicateKey`
-/// or `C5`. Returns `None` if it names none.
+/// Returns the explanation of the refusal or rule that the text names by its first word, such as
+/// `14`, `duplicatekey` or `C5`. The text may also be a printed line that reports one, such as
+/// `Info.plist: refused 14 DuplicateKey at object 0`. Returns `None` if it names none.
 ///
 /// # Errors
 ///
 /// [`AllocError`] if out of memory.
-pub fn explanation(alloc: Global, word: &str) -> Result<Option<String>, AllocError>
-    ensures { IfOk result (λ found. option_map string_bytes found ≡ explanation_of word.now) }
+pub fn explanation(alloc: Global, text: &str) -> Result<Option<String>, AllocError>
+    ensures { IfOk result (λ found. option_map string_bytes found ≡ explanation_of text.now) }
 {
-    match find(word) {
+    match find(word_in(text)) {
         Some(topic) => Ok(Some(explain(alloc, topic)?)),
         None => Ok(None),
     }

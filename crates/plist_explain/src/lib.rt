@@ -4,6 +4,7 @@
 
 pub mod explaining;
 pub mod laws;
+mod naming;
 mod refusals;
 mod rules;
 pub mod topics;

@@ -1,6 +1,6 @@
 //! What can be explained, and the words that name it.
 ghost use Rattle.std.specs.Prelude.{◌≡◌, Some};
-ghost use Rattle.std.specs.Str.{bytes_eq};
+ghost use Rattle.std.specs.Str.{bytes_eq, str_eq_ignore_ascii_case};
 ghost use Rattle.std.specs.Fmt.{decimal};
 ghost use Rattle.plist_explain.specs.Topics.{is_named, label};
 
@@ -21,16 +21,16 @@ pub type Topic = (Subject, &'static str, &'static str);
 
 impl Subject {
     /// Returns whether the word names the subject. `14` and `DuplicateKey` name a refusal, `C5` a
-    /// rule.
+    /// rule; letters may be in any case.
     pub fn is_named(self, word: &str) -> bool
         ensures { result ≡ is_named self word.now }
     {
         match self {
             Subject::Refusal(refusal) => {
-                word == refusal.name() || is_number(word.as_bytes(), refusal.number())
+                is_name(word, refusal.name()) || is_number(word.as_bytes(), refusal.number())
             }
             Subject::Rule(rule) => match word.as_bytes() {
-                [b'C', digits @ ..] => is_number(digits, rule),
+                [b'C' | b'c', digits @ ..] => is_number(digits, rule),
                 _ => false,
             },
         }
@@ -46,6 +46,13 @@ impl fmt::Display for Subject {
             Subject::Rule(rule) => write!(f, "C{rule}"),
         }
     }
+}
+
+/// Returns whether the word is the name, in any case.
+fn is_name(word: &str, name: &str) -> bool
+    ensures { result ≡ str_eq_ignore_ascii_case word.now name.now }
+{
+    word.eq_ignore_ascii_case(name)
 }
 
 /// Returns whether the bytes are the decimal digits of the number.
