@@ -5,9 +5,9 @@ pub(crate) const ABOUT: &str = "Converts Apple property lists to their canonical
 
 /// The program without a command, its messages and its exit statuses.
 pub(crate) const AFTER: &str = "\
-Reads binary property lists (bplist00) and OpenStep texts. XML has to be made
-binary first:
-  plutil -convert binary1 -o OUT IN    or    plistutil -i IN -f bin -o OUT
+Reads binary property lists (bplist00) and OpenStep texts. Make XML binary with:
+  plistconv-canonicalise --from-xml - < IN > OUT
+  plistutil -i IN -f bin -o OUT  (macOS: plutil -convert binary1 -o OUT IN)
 
 Without a command, converts standard input to standard output. If the input is
 refused, one line that says so is written in place of the file:
@@ -24,8 +24,9 @@ pub(crate) const CONVERT_ABOUT: &str = "Writes the property list of one file to 
 pub(crate) const CONVERT_AFTER: &str = "\
 Reads a property list, a binary file or an OpenStep text, from IN and writes its
 value to OUT: for binary1 as its canonical binary file, for openstep as a text.
-OUT is created, or emptied, only after IN was accepted, and may be IN. Prints
-nothing if that is done, else one line that says what is refused and why.
+OUT is created, or emptied, only after IN was accepted, and may be IN. But if
+the disk is full, that file is lost: plistconv-canonicalise replaces a file in
+one step. Prints nothing on success, else one line that says what is refused.
 
 An OpenStep text holds strings, data, arrays and dictionaries. A value with a
 number, a boolean or a date has none, and is refused with 40.
@@ -66,10 +67,11 @@ pub(crate) const LINT_AFTER: &str = "\
 Reads a property list, a binary file or an OpenStep text, from IN, and writes no
 file. Prints one line: IN: OK, or what is refused, where, and why.
 
-XML is refused with 21. Either of these makes it binary; always use the same
-one, since they write reals differently, in 4 bytes or in 8:
-  plutil -convert binary1 -o OUT IN
+XML is refused with 21. Each of these makes it binary; always use the same one,
+since they write reals differently, in 4 bytes or in 8. The last is for macOS:
+  plistconv-canonicalise --from-xml - < IN > OUT
   plistutil -i IN -f bin -o OUT
+  plutil -convert binary1 -o OUT IN
 
 Messages are on standard output, usage errors too: only 0 means accepted.
 
@@ -95,9 +97,9 @@ such as broken C7 at object 0.
   C3  the objects follow one another
   C4  every object is as short as can be
   C5  the keys of every dictionary ascend
-  C6  no two objects are the same string, number, date or data
+  C6  no two objects are the same string, number, boolean, date or data
   C7  objects are numbered as they are first referred to, and only strings,
-      numbers, dates and data are referred to again
+      numbers, booleans, dates and data are referred to again
 
 Anything but a binary file is refused with 1 or 2; `plistconv lint` says what it
 is. Messages are on standard output, usage errors too: only 0 and 1 are answers.
@@ -138,14 +140,15 @@ pub(crate) const EXPLAIN_ABOUT: &str = "Explains a refusal or a rule";
 
 pub(crate) const EXPLAIN_AFTER: &str = "\
 Prints what a refusal or a rule means, an example, and what to do. WHAT is the
-number or the name of a refusal, or a rule that check names. Without WHAT,
-prints one line for each of them.
+number of a refusal, its name, or a rule that check names, in any case; or, in
+quotes, the line that reports it. Without WHAT, prints a line for each of them.
 
 Messages are on standard output, usage errors too: only 0 is an answer.
 
 Example: plistconv explain 14
          plistconv explain DuplicateKey
          plistconv explain C5
+         plistconv explain 'Info.plist: refused 14 DuplicateKey at object 0'
 
 Exit status:
   0  explained
