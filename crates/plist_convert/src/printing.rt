@@ -1,5 +1,5 @@
 //! Printing, and the exit status that results.
-ghost use Rattle.std.specs.Prelude.{◌≡◌, MatchResult, IsTrue};
+ghost use Rattle.std.specs.Prelude.{◌≡◌, ◌↔◌, MatchResult, IsTrue};
 ghost use Rattle.clap.specs.Words.{kind_of};
 ghost use Rattle.plist_forms.specs.Status.{status_code};
 ghost use Rattle.plist_convert.specs.Answer.{refusal, said_of};
@@ -68,7 +68,7 @@ pub(crate) fn explain<W: Sink>(alloc: Global, error: &Error, output: &mut W) -> 
 /// Returns whether the text can be a message of `clap` with this status. A usage error begins with
 /// `error: `. There is no message if out of memory.
 fn explains(text: &str, status: Status) -> bool
-    ensures { IsTrue result → IsExplanation (status_code status) text.now }
+    ensures { IsTrue result ↔ IsExplanation (status_code status) text.now }
 {
     match status {
         Status::NoMemory => false,
