@@ -1,6 +1,6 @@
 """A second implementation of docs/FORMATS.md, for comparisons with the program: values, both readers, the canonical
-file, the OpenStep text of a value, its printed text, and the rules of `check`. It is slow and simple, shares no code
-with the program, and nothing about it is proved.
+file, the OpenStep text of a value, its printed text, the rules of `check`, and what `explain` explains. It is slow and
+simple, shares no code with the program, and nothing about it is proved.
 
 A value is a pair (kind, content): ('text', units), ('whole', n), ('flag', b), ('real4', octets),
 ('real8', octets), ('moment', octets), ('bytes', octets), ('list', values), ('table', {units: value}).
@@ -24,6 +24,8 @@ NAMES = {
     25: 'UnclosedComment', 26: 'BadEscape', 27: 'OctalRange', 28: 'OddData', 29: 'BadData', 30: 'Expected',
     31: 'Junk', 32: 'BadUtf16', 40: 'NotInOpenStep',
 }
+# The refusals of devices and of memory, which no input has.
+OTHER_NAMES = {50: 'ReadFailed', 51: 'WriteFailed', 52: 'InputTooLarge', 60: 'OutOfMemory'}
 
 
 class Refused(Exception):
@@ -748,3 +750,16 @@ def limited(octets):
     except Refused:
         return 0, 0
     return None
+
+
+# What is explained.
+
+def topic(text):
+    """Returns what a text names: `14 DuplicateKey`, `C5`, or None."""
+    mark = next((mark for mark in ('refused ', 'broken ') if mark in text), '')
+    word = text.rpartition(mark)[2] if mark else text
+    word = word.partition(' ')[0]
+    for code, name in {**NAMES, **OTHER_NAMES}.items():
+        if word == str(code) or (word.isascii() and word.lower() == name.lower()):
+            return '%d %s' % (code, name)
+    return word.upper() if len(word) == 2 and word[0] in 'Cc' and word[1] in '01234567' else None

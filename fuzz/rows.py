@@ -125,9 +125,14 @@ def fronts(octets):
     return ' '.join(said)
 
 
+def topic(octets):
+    return oracle.topic(octets.decode()) or 'nothing'
+
+
 def answer(line):
     name, question, form = line.split(' ', 2)
-    ask = {'value': value, 'print': print_of, 'layout': layout, 'tokens': tokens, 'fronts': fronts}[question]
+    ask = {'value': value, 'print': print_of, 'layout': layout, 'tokens': tokens, 'fronts': fronts,
+           'topic': topic}[question]
     try:
         return '%s: %s' % (name, ask(octets_of(form)))
     except Refused as fault:

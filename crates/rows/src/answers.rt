@@ -8,6 +8,7 @@ use crate::row::{Question, Row};
 use crate::values::answer_value;
 use ostep_lex::{Token, TokenKind, open, tokens};
 use plist_devices::ListSink;
+use plist_explain::explanation;
 use plist_forms::{judge_any, print, read_any};
 use plist_object::{BinFile, Object, Refs};
 use plist_value::Utf16;
@@ -26,6 +27,21 @@ pub(crate) fn answer(alloc: Global, row: &Row) -> Result<String, AllocError> {
         Question::Layout => answer_layout(alloc, row.name, octets),
         Question::Tokens => answer_tokens(alloc, row.name, octets),
         Question::Fronts => answer_fronts(alloc, row.name, octets),
+        Question::Topic => answer_topic(alloc, row.name, octets),
+    }
+}
+
+// What is explained: the beginning of the explanation.
+fn answer_topic(alloc: Global, name: &str, octets: &[u8]) -> Result<String, AllocError> {
+    let Ok(text) = str::from_utf8(octets) else {
+        return format!(in alloc; "{name}: not UTF-8");
+    };
+    let Some(text) = explanation(alloc, text)? else {
+        return format!(in alloc; "{name}: nothing");
+    };
+    match text.split_once(':') {
+        Some((label, _)) => format!(in alloc; "{name}: {label}"),
+        None => format!(in alloc; "{name}: {text}"),
     }
 }
 

@@ -17,6 +17,8 @@ pub(crate) enum Question {
     Tokens,
     /// How each prefix of it is refused.
     Fronts,
+    /// The refusal or rule that is explained for it.
+    Topic,
 }
 
 impl Question {
@@ -27,6 +29,7 @@ impl Question {
             "layout" => Some(Question::Layout),
             "tokens" => Some(Question::Tokens),
             "fronts" => Some(Question::Fronts),
+            "topic" => Some(Question::Topic),
             _ => None,
         }
     }
