@@ -78,3 +78,30 @@ fn each_word_is_explained_on_one_screen(rt: HostRuntime) -> Result<(), Fail> {
     }
     Ok(())
 }
+
+/// Texts that report something, and how their explanations begin.
+const REPORTS: [(&str, &str); 4] = [
+    ("14 DuplicateKey", "14 DuplicateKey: "),
+    (
+        "Info.plist: refused 14 DuplicateKey at object 0",
+        "14 DuplicateKey: ",
+    ),
+    (
+        "refused 5.plist: refused 20 BadUtf8 at octet 9",
+        "20 BadUtf8: ",
+    ),
+    ("broken C7 at object 3", "C7: "),
+];
+
+#[test]
+fn each_report_is_explained(rt: HostRuntime) -> Result<(), Fail> {
+    for (report, front) in REPORTS {
+        let mut output = Vec::new(rt.alloc());
+        let status = status_of(&rt, &["plistconv", "explain", report], &mut output);
+        assert!(rt;
+            status == 0 && output.starts_with(front.as_bytes()),
+            "at {report}"
+        );
+    }
+    Ok(())
+}

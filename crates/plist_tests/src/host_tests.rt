@@ -161,14 +161,21 @@ fn writes_a_long_file(rt: HostRuntime) -> Result<(), Fail> {
 }
 
 /// Runs, and how their output begins.
-const OTHER_WORDS: [&str; 17] = [
+const OTHER_WORDS: [&str; 24] = [
     "-h|0 Converts Apple property lists",
     "lint -h|0 Checks whether a file is a",
+    "help|0 Converts Apple property lists",
+    "help lint|0 Checks whether a file is a",
     "--version|0 plistconv 0.3.0\n",
+    "lint -V|3 error: ",
     "explain|0 1 TooShort: ",
     "explain 14|0 14 DuplicateKey: a dictionary has the same key twice\n\n",
     "explain OutOfMemory|0 60 OutOfMemory: ",
+    "explain duplicatekey|0 14 DuplicateKey: ",
     "explain C5|0 C5: ",
+    "explain c5|0 C5: ",
+    "explain 014|3 error: '014' is no refusal and no rule",
+    "explain +14|3 error: '+14' is no refusal and no rule",
     "explain 22|3 error: '22' is no refusal and no rule: plistconv explain lists them\n",
     "explain 14 C5|3 error: ",
     "turn row2.txt|3 error: ",
