@@ -54,6 +54,7 @@ Refuses-payload f containers i levels before left s laid begun listed reads leve
     record {
       stands = record {
         laid = laid;
+        listed = listed;
         before = containers;
         nodes = begun.nodes;
         payload = begun.payload;

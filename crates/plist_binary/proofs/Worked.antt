@@ -126,6 +126,7 @@ unsorted-last : StandsWithin unsorted 5 7 (TooMuchPayload 1)
 unfolding unsorted end_of what_holds object_at octets_at marked_object ascii_object content count_of_content
 unsorted-last = record {
   laid = unsorted-laid;
+  listed = lit< tt;
   before = 0 ∷ [];
   nodes = 4;
   payload = 6;

@@ -91,6 +91,7 @@ pub record HasNodesBefore (f : List ℕ) (i nodes most : ℕ) : Type 0 where
 -- the payload of i exceeds
 pub record HasPayloadAbove (f : List ℕ) (i few most : ℕ) : Type 0 where
   pub laid : IsLaid f
+  pub listed : i < (trailer_of f).count
   pub before : List ℕ
   pub nodes : ℕ
   pub payload : ℕ
