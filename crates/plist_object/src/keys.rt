@@ -22,9 +22,9 @@ pub(crate) struct Key<'a> {
     pub(crate) object: u64,
 }
 
-/// The strings that are keys of a file's dictionaries, each object once.
+// The strings that are keys of a file's dictionaries, each object once.
 #[derive(Drop)]
-pub struct Keys<'a> {
+pub(crate) struct Keys<'a> {
     entries: Vec<Key<'a>>,
     seen: Vec<bool>,
     // The number of bytes that may still be read; `None` once it is exceeded.
@@ -34,10 +34,14 @@ pub struct Keys<'a> {
 }
 
 impl<'a> Keys<'a> {
-    /// Collects the keys of the dictionaries up to object `last`. Stops early at the first
-    /// dictionary that cannot be read, at the first key that is no string, or if dictionaries or
-    /// strings overlap.
-    pub fn of_tables(alloc: Global, file: &BinFile<'a>, last: u64) -> Result<Keys<'a>, AllocError>
+    // Collects the keys of the dictionaries up to object `last`. Stops early at the first
+    // dictionary that cannot be read, at the first key that is no string, or if dictionaries or
+    // strings overlap.
+    pub(crate) fn of_tables(
+        alloc: Global,
+        file: &BinFile<'a>,
+        last: u64,
+    ) -> Result<Keys<'a>, AllocError>
         ensures { IfOk result (λ keys. AreKeys (octets_of file.now) keys) }
     {
         let mut keys = Keys::none(alloc, file)?;
@@ -49,8 +53,8 @@ impl<'a> Keys<'a> {
         Ok(keys)
     }
 
-    /// Collects the keys of the dictionaries that the top object reaches.
-    pub fn of_reached(alloc: Global, file: &BinFile<'a>) -> Result<Keys<'a>, AllocError>
+    // Collects the keys of the dictionaries that the top object reaches.
+    pub(crate) fn of_reached(alloc: Global, file: &BinFile<'a>) -> Result<Keys<'a>, AllocError>
         ensures { IfOk result (λ keys. AreKeys (octets_of file.now) keys) }
     {
         reached_keys(alloc, file)
@@ -70,8 +74,7 @@ impl<'a> Keys<'a> {
         })
     }
 
-    // Adds the keys that are strings. For a key that is none, reading may have gone as far as the
-    // offset table.
+    // Adds the keys that are strings, and passes over the others.
     pub(crate) fn look_at_all(&mut self, file: &BinFile<'a>, keys: &Refs) -> Result<(), AllocError>
         requires { AreKeys (octets_of file.now) self.old }
         ensures { OnOk result (AreKeys (octets_of file.now) self.new) }
@@ -81,9 +84,7 @@ impl<'a> Keys<'a> {
             if self.overlap() {
                 return Ok(());
             }
-            let added = self.add(file, keys.get(k))?;
-            let read = if added { 0 } else { file.table() / 8 };
-            self.room = less(self.room, read);
+            self.add(file, keys.get(k))?;
         }
         Ok(())
     }
@@ -121,8 +122,8 @@ impl<'a> Keys<'a> {
         Ok(true)
     }
 
-    // Adds the string that the object contains. Returns `false` if it contains none or if objects
-    // overlap.
+    // Adds the string that the object contains, if it was not seen before. Returns `false` if it
+    // contains none or if objects overlap.
     fn add(&mut self, file: &BinFile<'a>, object: u64) -> Result<bool, AllocError>
         requires { AreKeys (octets_of file.now) self.old }
         ensures { OnOk result (AreKeys (octets_of file.now) self.new) }
@@ -133,25 +134,30 @@ impl<'a> Keys<'a> {
         if self.seen[object as usize] {
             return Ok(true);
         }
+        self.seen[object as usize] = true;
         let Some(text) = file.text(object) else {
+            self.room = less(self.room, file.ascii_length(object));
             return Ok(false);
         };
-        self.seen[object as usize] = true;
         self.room = less(self.room, text.len() as u64);
         self.entries.push(Key { text, object })?;
         Ok(!self.overlap())
     }
 
-    /// Returns whether more was read, or dictionaries had more keys, than fit before the offset
-    /// table. Only strings and dictionaries that overlap can cause this.
-    pub fn overlap(&self) -> bool
+    // Returns whether more was read, or dictionaries had more keys, than fit before the offset
+    // table. Only strings and dictionaries that overlap can cause this.
+    pub(crate) fn overlap(&self) -> bool
         ensures { result ≡ is_none self.now.room }
     {
         self.room.is_none()
     }
 
-    /// Sorts the strings and returns their ranks.
-    pub fn ranks(&mut self, alloc: Global, file: &BinFile<'a>) -> Result<Ranks<'a>, AllocError>
+    // Sorts the strings and returns their ranks.
+    pub(crate) fn ranks(
+        &mut self,
+        alloc: Global,
+        file: &BinFile<'a>,
+    ) -> Result<Ranks<'a>, AllocError>
         requires { AreKeys (octets_of file.now) self.old }
         ensures { IfOk result (λ ranks. AreRanks (octets_of file.now) ranks) }
     {

@@ -273,6 +273,16 @@ impl<'a> BinFile<'a> {
         reading::ascii_text(octets)
     }
 
+    // Returns the number of bytes of object `n` if it is marked as an ASCII string, and else 0.
+    pub(crate) fn ascii_length(&self, n: u64) -> u64
+        requires { n < (trailer_of (octets_of self.now)).count }
+    {
+        match self.octets_at(n) {
+            Ok(octets) => reading::ascii_length(octets),
+            Err(_) => 0,
+        }
+    }
+
     /// Decodes object `n`, which is below `count`, and returns its content with the offsets of its
     /// bytes.
     pub fn spanned(&self, n: u64) -> Result<Spanned<'a>, ObjectFault>

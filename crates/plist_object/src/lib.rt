@@ -3,7 +3,7 @@
 #![tactic(auto)]
 
 mod in_order;
-pub mod keys;
+mod keys;
 pub mod laws;
 pub mod layout;
 pub mod lengths;
@@ -12,7 +12,7 @@ pub mod object;
 pub mod order;
 mod prefixes;
 pub mod puts;
-pub mod ranks;
+mod ranks;
 mod reached;
 mod reading;
 pub mod refs;
@@ -20,7 +20,6 @@ mod reserved;
 pub mod shortest;
 mod units;
 
-pub use keys::Keys;
 pub use layout::{BinFile, LayoutFault, Spanned};
 pub use lengths::{list_length, scalar_length, short, table_length, width_of};
 pub use markers::HEADER;
@@ -30,6 +29,5 @@ pub use puts::{
     put_data_head, put_list, put_number, put_scalar, put_short_list, put_short_table, put_table,
     put_trailer,
 };
-pub use ranks::Ranks;
 pub use refs::Refs;
 pub use shortest::begins_canonically;

@@ -9,18 +9,18 @@ use crate::layout::BinFile;
 use plist_value::TextRef;
 use std::alloc::{AllocError, Global};
 
-/// The ranks of some objects that contain strings. Equal strings have the same rank, and a lower
-/// string has a lower rank. This is a cache: which objects have a rank is not specified.
+// The ranks of some objects that contain strings. Equal strings have the same rank, and a lower
+// string has a lower rank. This is a cache: which objects have a rank is not specified.
 #[derive(Drop)]
-pub struct Ranks<'a> {
+pub(crate) struct Ranks<'a> {
     // One more than the rank of each object, or 0 if it has none: 4 bytes for an object.
     of_objects: Vec<u32>,
     texts: Vec<TextRef<'a>>,
 }
 
 impl<'a> Ranks<'a> {
-    /// Creates ranks that no object has.
-    pub fn none(alloc: Global) -> Ranks<'a>
+    // Creates ranks that no object has.
+    pub(crate) fn none(alloc: Global) -> Ranks<'a>
         ensures { (f : List ℕ) → AreRanks f result }
     {
         Ranks {
@@ -29,8 +29,8 @@ impl<'a> Ranks<'a> {
         }
     }
 
-    /// Returns the rank of the object, if it has one.
-    pub fn get(&self, object: u64) -> Option<u64>
+    // Returns the rank of the object, if it has one.
+    pub(crate) fn get(&self, object: u64) -> Option<u64>
         ensures { result ≡ rank_of self.now object }
     {
         if object < self.of_objects.len() as u64 {
@@ -40,8 +40,8 @@ impl<'a> Ranks<'a> {
         }
     }
 
-    /// Returns the string with this rank, if there is one.
-    pub fn text(&self, rank: u64) -> Option<TextRef<'a>>
+    // Returns the string with this rank, if there is one.
+    pub(crate) fn text(&self, rank: u64) -> Option<TextRef<'a>>
         ensures { result ≡ text_of_rank self.now rank }
     {
         self.texts.get(rank as usize).copied()
@@ -51,7 +51,7 @@ impl<'a> Ranks<'a> {
 // From this number of keys on none has a rank, because ranks have 32 bits.
 const TOO_MANY_KEYS: usize = u32::MAX as usize;
 
-/// Returns the ranks of keys that are sorted by their strings.
+// Returns the ranks of keys that are sorted by their strings.
 pub(crate) fn ranks_in_order<'a>(
     alloc: Global,
     file: &BinFile<'a>,

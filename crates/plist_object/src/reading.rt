@@ -313,6 +313,22 @@ pub(crate) fn ascii_text(octets: &[u8]) -> Option<TextRef<'_>>
     }
 }
 
+/// Returns the number of bytes of the object at the start, if it is marked as an ASCII string and
+/// not cut, and else 0. Other objects that are no strings are refused without reading their content.
+pub(crate) fn ascii_length(octets: &[u8]) -> u64 {
+    match octets.split_first() {
+        Some((marker, octets)) if marker / 16 == ASCII => length_in(octets, marker % 16),
+        _ => 0,
+    }
+}
+
+fn length_in(octets: &[u8], low: u8) -> u64 {
+    match content(octets, low, 1) {
+        Ok((ascii, _)) => ascii.count,
+        Err(_) => 0,
+    }
+}
+
 /// Decodes the object at the start of the bytes, with references of `width` bytes each. Returns its
 /// content, and the bytes after the object.
 #[tactic(auto, unfolding(crate::specs::Objects::marked_object))]
