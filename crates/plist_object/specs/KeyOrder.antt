@@ -66,6 +66,10 @@ pub record IsLast (f keys places : List ℕ) (distinct : Bool) : Type 0 where
   pub order : IsInOrder f keys places
   pub tells : IsTrue distinct ↔ Ascend f keys places
 
+-- the positions of the keys sorted last, in order
+abbrev pub places_of : KeyOrder → List ℕ
+places_of order = order.places.items
+
 -- what is kept of the last dictionary is correct, and the ranks are those of this file
 pub record IsReady (f : List ℕ) (order : KeyOrder) : Type 0 where
   pub last : IfSome order.last (λ keys. IsLast f (numbers_of keys) order.places.items order.distinct)

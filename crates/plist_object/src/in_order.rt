@@ -1,5 +1,5 @@
 //! Whether the keys of dictionaries ascend in the order of the file.
-ghost use Rattle.std.specs.Prelude.{◌↔◌, IsTrue, IfSome, IfNone, OnOk};
+ghost use Rattle.std.specs.Prelude.{◌↔◌, IsTrue, IfSome, IfNone};
 ghost use Rattle.plist_value.specs.Plist.{text};
 ghost use Rattle.plist_value.specs.Texts.{units_of};
 ghost use Rattle.plist_object.specs.Objects.{holds_scalar};
@@ -25,7 +25,7 @@ impl<'a> KeyOrder<'a> {
     ///
     /// # Errors
     ///
-    /// [`AllocError`] if out of memory.
+    /// [`AllocError`] if out of memory. The order can still be used.
     pub fn prepare(
         &mut self,
         alloc: Global,
@@ -33,7 +33,7 @@ impl<'a> KeyOrder<'a> {
         keys: &Refs,
     ) -> Result<bool, AllocError>
         requires { IsReady (octets_of file.now) self.old }
-        ensures { OnOk result (IsReady (octets_of file.now) self.new) }
+        ensures { IsReady (octets_of file.now) self.new }
     {
         let Some(left) = self.left else {
             return Ok(true);
@@ -43,12 +43,13 @@ impl<'a> KeyOrder<'a> {
         {
             return Ok(true);
         }
-        self.left = left_after(file, keys, left);
-        if self.left.is_some() {
+        if let Some(rest) = left_after(file, keys, left) {
+            self.left = Some(rest);
             return Ok(true);
         }
         let mut named = Keys::of_tables(alloc, file, file.count())?;
         self.ranks = named.ranks(alloc, file)?;
+        self.left = None;
         Ok(!named.overlap())
     }
 

@@ -13,7 +13,7 @@ ghost use Rattle.plist_object.specs.Places.{Holds, HoldsText};
 ghost use Rattle.plist_object.specs.Views.{numbers_of, octets_of};
 ghost use Rattle.plist_object.specs.Order.{Ascend, IsInOrder, NameTexts};
 ghost use Rattle.plist_object.specs.KeyOrder.{AreRows, AreTexts, IsRankOf, IsReady, TellsOrder};
-ghost use Rattle.plist_object.specs.KeyOrder.{by_number, number_of, place_of, units_at};
+ghost use Rattle.plist_object.specs.KeyOrder.{by_number, number_of, place_of, places_of, units_at};
 ghost use Rattle.plist_object.specs.Ranks.{AreRanks};
 
 use crate::keys::Keys;
@@ -96,7 +96,7 @@ impl<'a> KeyOrder<'a> {
     /// Returns the positions of the keys sorted last, counted from 0, in ascending order of their
     /// strings by UTF-16 units.
     pub fn places(&self) -> &[u32]
-        ensures { result.now ≡ self.now.places.items }
+        ensures { result.now ≡ places_of self.now }
     {
         &self.places
     }
@@ -106,7 +106,7 @@ impl<'a> KeyOrder<'a> {
     ///
     /// # Errors
     ///
-    /// [`AllocError`] if out of memory, or if there are 2^32 keys.
+    /// [`AllocError`] if out of memory, or if there are 2^32 keys. The order can still be used.
     pub fn sort(
         &mut self,
         alloc: Global,
@@ -116,10 +116,10 @@ impl<'a> KeyOrder<'a> {
         requires names { NameTexts (octets_of file.now) (numbers_of keys.now) }
         requires ready { IsReady (octets_of file.now) self.old }
         ensures order { OnOk result (IsInOrder (octets_of file.now) (numbers_of keys.now)
-            self.new.places.items) }
+            (places_of self.new)) }
         ensures distinct { IfOk result (λ distinct. IsTrue distinct
-            ↔ Ascend (octets_of file.now) (numbers_of keys.now) self.new.places.items) }
-        ensures ready { OnOk result (IsReady (octets_of file.now) self.new) }
+            ↔ Ascend (octets_of file.now) (numbers_of keys.now) (places_of self.new)) }
+        ensures ready { IsReady (octets_of file.now) self.new }
     {
         if let Some(last) = self.last
             && last.is_same(keys)
@@ -128,10 +128,12 @@ impl<'a> KeyOrder<'a> {
         }
         let Rows { texts, mut list } = self.rows(alloc, file, keys)?;
         sort_rows(&mut list, &texts);
-        self.distinct = ascend(&list, &texts);
-        self.places = places_in_turn(alloc, &list)?;
+        let distinct = ascend(&list, &texts);
+        let places = places_in_turn(alloc, &list)?;
         self.last = Some(*keys);
-        Ok(self.distinct)
+        self.places = places;
+        self.distinct = distinct;
+        Ok(distinct)
     }
 
     // Returns the keys of a dictionary, with numbers that agree with their order.
@@ -146,15 +148,16 @@ impl<'a> KeyOrder<'a> {
         ensures texts { IfOk result (λ rows. AreTexts (octets_of file.now) (numbers_of keys.now)
             rows.texts.items) }
         ensures rows { IfOk result (λ rows. AreRows rows.texts.items rows.list.items) }
-        ensures ready { OnOk result (IsReady (octets_of file.now) self.new) }
+        ensures ready { IsReady (octets_of file.now) self.new }
     {
         if let Some(left) = self.left {
             let texts = texts_of(alloc, file, keys)?;
-            self.left = left.checked_sub(units_in(&texts));
-            if self.left.is_some() {
+            if let Some(rest) = left.checked_sub(units_in(&texts)) {
+                self.left = Some(rest);
                 return text_rows(alloc, texts);
             }
             self.ranks = Keys::of_reached(alloc, file)?.ranks(alloc, file)?;
+            self.left = None;
         }
         ranked_rows(alloc, file, &self.ranks, keys)
     }

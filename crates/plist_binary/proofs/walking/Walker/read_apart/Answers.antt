@@ -54,6 +54,6 @@ returns-clause-progress c =
     record {
       states = so_far.states;
       last = SpellApart-read (octets_of c.args.self.now.visitor.file) (numbers_of c.args.refs) c.args.levels (before.payload - now.payload) before now (returns-clause-read c) refl;
-      ready = c.in_ok-sort.ensures.ready;
+      ready = c.sort.ensures.ready;
       within = so_far.within;
     }
