@@ -201,6 +201,55 @@ def overlapping_later(size):
                    *overlapping_strings(len(over), size // 2)], width)
 
 
+def late_dictionary(count, size, key, names):
+    """Returns an array of an array and a dictionary. In the inner array are dictionaries of the same `count` keys, which
+    `key` makes from a length and a place, in two orders in turn. The other dictionary has the keys `names`, by their
+    numbers: 1 is a string, 2 a boolean, and from 3 on they are the `count` keys."""
+    width, at, length = 3, 5, size * 2 // 17 // count
+    lists = [chosen for _ in range(size // (6 * count + 10)) for chosen in (range(count), range(count - 1, -1, -1))]
+    made, total = [], count * length
+    while total < size:
+        made.append(dictionary([at + place for place in lists[len(made)]], 3, width))
+        total += len(made[-1]) + 7
+    last = dictionary([{1: 3, 2: 4}.get(name, at + name - 3) for name in names], 3, width)
+    inner = array(range(at + count, at + count + len(made)), width)
+    keys = [key(length, place) for place in range(count)]
+    return joined([array((1, 2), width), inner, last, b"Qx", b"\x09", *keys, *made], width)
+
+
+def wide_key(length, place):
+    return wide_string(length // 2, place)
+
+
+def ascii_key(length, place):
+    return ascii_string(length, b"%03d" % place)
+
+
+def boolean_keys(size):
+    """Returns a `late_dictionary` with nine keys that are a boolean."""
+    return late_dictionary(20, size, wide_key, [2] * 9)
+
+
+def keys_nowhere(size):
+    """Returns a `late_dictionary` with nine keys that are references to no object."""
+    return late_dictionary(20, size, wide_key, [10**6] * 9)
+
+
+def late_wide_keys(size):
+    """Returns a `late_dictionary` with nine of the keys."""
+    return late_dictionary(20, size, wide_key, range(3, 12))
+
+
+def late_ascii_keys(size):
+    """Returns a `late_dictionary` of ASCII keys, with nine of them."""
+    return late_dictionary(20, size, ascii_key, range(3, 12))
+
+
+def late_256_keys(size):
+    """Returns a `late_dictionary` of 256 keys, with nine of them."""
+    return late_dictionary(256, size, wide_key, range(3, 12))
+
+
 def quotes(size):
     """Returns a string of quotes."""
     return joined([head(0x50, size) + b'"' * size], 1)
@@ -216,11 +265,13 @@ ROWS = {
     shared_keys: "refused 18", overlapping_keys: "refused 18", unordered_keys: "refused 18",
     one_dictionary_often: "refused 14", one_string_often: "refused 18", one_place: "OK", one_key: "OK",
     reordered_16: "OK", reordered_256: "OK", lists_in_turn: "OK", three_in_turn: "OK", overlapping_later: "refused 18",
-    overlapping_unreached: "OK", quotes: "OK", unseen_units: "OK",
+    overlapping_unreached: "OK", boolean_keys: "refused 13", keys_nowhere: "refused 5", late_wide_keys: "OK",
+    late_ascii_keys: "OK", late_256_keys: "OK", quotes: "OK", unseen_units: "OK",
 }
 
 # Files of values that repeat long strings, and the commands that write these each time.
-REPEATING = (one_place, one_key, reordered_16, reordered_256, three_in_turn, overlapping_unreached)
+REPEATING = (one_place, one_key, reordered_16, reordered_256, three_in_turn, overlapping_unreached, late_wide_keys,
+             late_ascii_keys, late_256_keys)
 REPEATERS = ("print", "openstep")
 
 COMMANDS = {
