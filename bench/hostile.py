@@ -202,16 +202,16 @@ def overlapping_later(size):
 
 
 def late_dictionary(count, size, key, names):
-    """Returns an array of an array and a dictionary. In the inner array are dictionaries of the same `count` keys, which
-    `key` makes from a length and a place, in two orders in turn. The other dictionary has the keys `names`, by their
-    numbers: 1 is a string, 2 a boolean, and from 3 on they are the `count` keys."""
+    """Returns an array of an array and a dictionary. In the inner array are dictionaries of the same `count` keys,
+    which `key` makes from a length and a place, in two orders in turn. The other dictionary has the keys `names`: 2 is
+    a boolean, those from 3 on are the `count` keys, and the largest number is no object."""
     width, at, length = 3, 5, size * 2 // 17 // count
     lists = [chosen for _ in range(size // (6 * count + 10)) for chosen in (range(count), range(count - 1, -1, -1))]
     made, total = [], count * length
     while total < size:
         made.append(dictionary([at + place for place in lists[len(made)]], 3, width))
         total += len(made[-1]) + 7
-    last = dictionary([{1: 3, 2: 4}.get(name, at + name - 3) for name in names], 3, width)
+    last = dictionary([4 if name == 2 else at + name - 3 for name in names], 3, width)
     inner = array(range(at + count, at + count + len(made)), width)
     keys = [key(length, place) for place in range(count)]
     return joined([array((1, 2), width), inner, last, b"Qx", b"\x09", *keys, *made], width)
@@ -222,7 +222,8 @@ def wide_key(length, place):
 
 
 def ascii_key(length, place):
-    return ascii_string(length, b"%03d" % place)
+    # (a value may have at most 2^30 bytes of strings, two for each unit)
+    return ascii_string(length // 2, b"%03d" % place)
 
 
 def boolean_keys(size):
@@ -250,6 +251,48 @@ def late_256_keys(size):
     return late_dictionary(256, size, wide_key, range(3, 12))
 
 
+def one_dictionary(size, units_of):
+    """Returns a dictionary whose keys are UTF-16 strings of these units, in no order, all of the same length."""
+    length = len(units_of(0))
+    count = size // (2 * length + 13)
+    places = random.Random(length).sample(range(count), count)
+    keys = [head(0x60, length) + numbers(units_of(place), 2) for place in places]
+    return joined([dictionary(range(1, count + 1), count + 1, 3), *keys, b"Qx"], 3)
+
+
+def tied(place, blocks):
+    """Returns blocks of units, each with the same first unit or another by a bit of `place`, and the place itself."""
+    start = [unit for at, block in enumerate(blocks) for unit in (block[0] + (place >> at & 1), *block[1:])]
+    return start + [0x4E00 + place // 256, 0x4E00 + place % 256]
+
+
+def tied_narrow_keys(size):
+    """Returns keys in few groups, whose next eight units of 8 bits are equal each time that they are compared."""
+    return one_dictionary(size, lambda place: tied(place, [[0x61] * 8] * 5))
+
+
+def tied_wide_keys(size):
+    """Returns keys in few groups, whose next four units of 16 bits are equal each time that they are compared."""
+    return one_dictionary(size, lambda place: tied(place, [[0x4E00] * 4] * 5))
+
+
+def changing_keys(size):
+    """Returns keys in few groups, whose next units need 8 and 16 bits in turn."""
+    return one_dictionary(size, lambda place: tied(place, [[0x61] * 8, [0x4E00] * 4] * 3))
+
+
+def one_narrow_key(size):
+    """Returns ideographs as keys, and one key of ASCII."""
+    return one_dictionary(size, lambda place: [0x61] * 8 if place == 0 else [0x4E00 + place % 97] * 6
+                          + [0x4E00 + place // 256, 0x4E00 + place % 256])
+
+
+def surrogate_keys(size):
+    """Returns keys of characters above U+FFFF."""
+    return one_dictionary(size, lambda place: [0xD83D, 0xDE00 + place % 64] * 3
+                          + [0xD840 + place // 1024, 0xDC00 + place % 1024])
+
+
 def quotes(size):
     """Returns a string of quotes."""
     return joined([head(0x50, size) + b'"' * size], 1)
@@ -266,7 +309,8 @@ ROWS = {
     one_dictionary_often: "refused 14", one_string_often: "refused 18", one_place: "OK", one_key: "OK",
     reordered_16: "OK", reordered_256: "OK", lists_in_turn: "OK", three_in_turn: "OK", overlapping_later: "refused 18",
     overlapping_unreached: "OK", boolean_keys: "refused 13", keys_nowhere: "refused 5", late_wide_keys: "OK",
-    late_ascii_keys: "OK", late_256_keys: "OK", quotes: "OK", unseen_units: "OK",
+    late_ascii_keys: "OK", late_256_keys: "OK", tied_narrow_keys: "OK", tied_wide_keys: "OK", changing_keys: "OK",
+    one_narrow_key: "OK", surrogate_keys: "OK", quotes: "OK", unseen_units: "OK",
 }
 
 # Files of values that repeat long strings, and the commands that write these each time.
