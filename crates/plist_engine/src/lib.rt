@@ -12,7 +12,7 @@ mod memo;
 mod new_objects;
 pub mod notation;
 pub mod objects;
-pub mod order;
+mod order;
 pub mod outputs;
 mod plan;
 mod renumbering;
