@@ -3,7 +3,8 @@
 use Rattle.std.specs.Prelude.{◌≡◌, ℕ, ◌+◌, ◌<◌, ◌≤◌, List, [], ◌∷◌, ◌++◌, length, Result, Ok, Err}
 use Rattle.std.specs.List.{Contains}
 use Rattle.plist_value.specs.Plist.{Items, AreItems}
-use Rattle.plist_value.specs.Limits.{nodes_of_items, depth_of_items, payload_of_items, payload_of_scalar}
+use Rattle.plist_value.specs.Limits.{nodes_of_items, depth_of_items, payload_of_items}
+use Rattle.plist_value.specs.Limits.{payload_of_scalar}
 use Rattle.plist_value.specs.Budget.{Spends}
 use Rattle.plist_value.specs.declared.TheConstants.{MAX_DEPTH}
 use Rattle.plist_value.specs.declared.budget.Budget.{Budget}
@@ -34,7 +35,8 @@ pub record Comes (f : List ℕ) (j i : ℕ) (vs : Items) : Type 0 where
 
 -- before i come: what comes before the container j, which is not on its own path; j itself; and the
 -- values of its references before the one to i, none of them too deep
-pub record BeginsIn (f before : List ℕ) (begins : ℕ → ℕ → Type 0) (j i nodes payload : ℕ) : Type 0 where
+pub record BeginsIn (f before : List ℕ) (begins : ℕ → ℕ → Type 0)
+    (j i nodes payload : ℕ) : Type 0 where
   pub nodes_above : ℕ
   pub payload_above : ℕ
   pub above : begins nodes_above payload_above
@@ -84,4 +86,5 @@ pub record AreNext (f before : List ℕ) (j : ℕ) (refs : List ℕ) (left : Bud
   pub spell : SpellItems f front values
   pub valid : AreItems values
   pub deep : length before + 1 + depth_of_items values ≤ MAX_DEPTH
-  pub spent : Spends limits (nodes + 1 + nodes_of_items values) (payload + payload_of_items values) left
+  pub spent : Spends limits (nodes + 1 + nodes_of_items values)
+      (payload + payload_of_items values) left

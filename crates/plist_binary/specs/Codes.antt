@@ -9,7 +9,15 @@ use Rattle.plist_object.specs.declared.layout.LayoutFault.TheVariants as layout
 use Rattle.plist_object.specs.declared.object.ObjectFault.{ObjectFault}
 use Rattle.plist_object.specs.declared.object.ObjectFault.TheVariants as object
 use Rattle.plist_binary.specs.declared.fault.BinaryFault.{BinaryFault}
-use Rattle.plist_binary.specs.declared.fault.BinaryFault.TheVariants.{TooShort, BadHeader, BadTrailer, BadOffset, BadReference, CutObject, BadMarker, NullObject, UidObject, SetObject, NotAscii, WideInteger, KeyNotText, DuplicateKey, Cycle, TooDeep, TooManyNodes, TooMuchPayload, OutOfMemory}
+use Rattle.plist_binary.specs.declared.fault.BinaryFault.TheVariants.{TooShort, BadHeader}
+use Rattle.plist_binary.specs.declared.fault.BinaryFault.TheVariants.{BadTrailer, BadOffset}
+use Rattle.plist_binary.specs.declared.fault.BinaryFault.TheVariants.{BadReference, CutObject}
+use Rattle.plist_binary.specs.declared.fault.BinaryFault.TheVariants.{BadMarker, NullObject}
+use Rattle.plist_binary.specs.declared.fault.BinaryFault.TheVariants.{UidObject, SetObject}
+use Rattle.plist_binary.specs.declared.fault.BinaryFault.TheVariants.{NotAscii, WideInteger}
+use Rattle.plist_binary.specs.declared.fault.BinaryFault.TheVariants.{KeyNotText, DuplicateKey}
+use Rattle.plist_binary.specs.declared.fault.BinaryFault.TheVariants.{Cycle, TooDeep, TooManyNodes}
+use Rattle.plist_binary.specs.declared.fault.BinaryFault.TheVariants.{TooMuchPayload, OutOfMemory}
 
 -- the fault of a layout as one of the file
 abbrev pub of_layout : LayoutFault → BinaryFault

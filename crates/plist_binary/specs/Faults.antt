@@ -10,7 +10,15 @@ use Rattle.plist_object.specs.Layout.{trailer_of, IsLaid, IsLayoutFault}
 use Rattle.plist_object.specs.Objects.{Held, holds_scalar, holds_list, holds_table}
 use Rattle.plist_object.specs.Places.{Holds, what_holds}
 use Rattle.plist_binary.specs.declared.fault.BinaryFault.{BinaryFault}
-use Rattle.plist_binary.specs.declared.fault.BinaryFault.TheVariants.{TooShort, BadHeader, BadTrailer, BadOffset, BadReference, CutObject, BadMarker, NullObject, UidObject, SetObject, NotAscii, WideInteger, KeyNotText, DuplicateKey, Cycle, TooDeep, TooManyNodes, TooMuchPayload, OutOfMemory}
+use Rattle.plist_binary.specs.declared.fault.BinaryFault.TheVariants.{TooShort, BadHeader}
+use Rattle.plist_binary.specs.declared.fault.BinaryFault.TheVariants.{BadTrailer, BadOffset}
+use Rattle.plist_binary.specs.declared.fault.BinaryFault.TheVariants.{BadReference, CutObject}
+use Rattle.plist_binary.specs.declared.fault.BinaryFault.TheVariants.{BadMarker, NullObject}
+use Rattle.plist_binary.specs.declared.fault.BinaryFault.TheVariants.{UidObject, SetObject}
+use Rattle.plist_binary.specs.declared.fault.BinaryFault.TheVariants.{NotAscii, WideInteger}
+use Rattle.plist_binary.specs.declared.fault.BinaryFault.TheVariants.{KeyNotText, DuplicateKey}
+use Rattle.plist_binary.specs.declared.fault.BinaryFault.TheVariants.{Cycle, TooDeep, TooManyNodes}
+use Rattle.plist_binary.specs.declared.fault.BinaryFault.TheVariants.{TooMuchPayload, OutOfMemory}
 use Rattle.plist_binary.specs.Paths.{Refers, EndsPath}
 use Rattle.plist_binary.specs.Begins.{payload_read, Begins}
 

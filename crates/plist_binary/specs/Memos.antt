@@ -29,7 +29,8 @@ pub record IsKey (f : List ℕ) (i size : ℕ) : Type 0 where
 abbrev pub IsState : List ℕ → List ℕ → ℕ → State → Type 0
 IsState f path i Unseen = ⊤
 IsState f path i Open = Contains path i
-IsState f path i (Passed deep n size) = IsMemo f i (record { depth = deep; nodes = n; payload = size })
+IsState f path i (Passed deep n size) =
+    IsMemo f i (record { depth = deep; nodes = n; payload = size })
 IsState f path i (Key size) = IsKey f i size
 
 abbrev pub state_of : List State → ℕ → State
@@ -46,6 +47,7 @@ pub record AreStatesBut (f path : List ℕ) (j : ℕ) (states : List State) : Ty
   pub opened : (i : ℕ) → i ≢ j → Contains path i → state_of states i ≡ Open
 
 -- the object has this state now, and all others have their old ones
-pub record IsMarked (before : List State) (object : ℕ) (state : State) (after : List State) : Type 0 where
+pub record IsMarked (before : List State) (object : ℕ) (state : State)
+    (after : List State) : Type 0 where
   pub here : state_of after object ≡ state
   pub elsewhere : (i : ℕ) → i ≢ object → state_of after i ≡ state_of before i

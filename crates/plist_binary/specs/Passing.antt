@@ -11,21 +11,24 @@ use Rattle.plist_binary.specs.Budgets.{limits}
 use Rattle.plist_binary.specs.Readings.{Reads, ReadsItems, ReadsPairs}
 
 -- the object encodes a value, at most `levels` deep, that takes the difference of the budgets
-pub record Passes (f : List ℕ) (i levels : ℕ) (before : Budget) (deep : ℕ) (after : Budget) : Type 0 where
+pub record Passes (f : List ℕ) (i levels : ℕ) (before : Budget) (deep : ℕ)
+    (after : Budget) : Type 0 where
   pub value : Plist
   pub reads : Reads f i levels before value after
   pub depth_is : depth value ≤ deep
   pub within : deep ≤ levels
 
 -- the references point to values, in order
-pub record PassesItems (f refs : List ℕ) (levels : ℕ) (before : Budget) (deep : ℕ) (after : Budget) : Type 0 where
+pub record PassesItems (f refs : List ℕ) (levels : ℕ) (before : Budget) (deep : ℕ)
+    (after : Budget) : Type 0 where
   pub values : List Plist
   pub reads : ReadsItems f refs levels before (items_of values) after
   pub depth_is : depth_of_items (items_of values) ≤ deep
   pub within : deep ≤ levels
 
 -- the references to keys and to values give the pairs of a dictionary
-pub record PassesPairs (f keys values : List ℕ) (levels : ℕ) (before : Budget) (deep : ℕ) (after : Budget) : Type 0 where
+pub record PassesPairs (f keys values : List ℕ) (levels : ℕ) (before : Budget) (deep : ℕ)
+    (after : Budget) : Type 0 where
   pub pairs : Pairs
   pub reads : ReadsPairs f keys values levels before pairs after
   pub depth_is : depth_of_pairs pairs ≤ deep

@@ -2,8 +2,11 @@
 use Rattle.std.specs.Prelude.{ℕ, ◌*◌, ◌≤◌, List, [], ◌∷◌, length}
 use Rattle.std.specs.List.{zip}
 use Rattle.std.specs.List.Sorted.{IsPermutation}
-use Rattle.plist_value.specs.Plist.{text, Plist, scalar, Items, no_items, item, Pairs, IsPlist, AreItems, ArePairs}
-use Rattle.plist_value.specs.Limits.{nodes, depth, payload, nodes_of_items, depth_of_items, payload_of_items, nodes_of_pairs, depth_of_pairs, payload_of_pairs}
+use Rattle.plist_value.specs.Plist.{text, Plist, scalar, Items, no_items, item, Pairs, IsPlist}
+use Rattle.plist_value.specs.Plist.{AreItems, ArePairs}
+use Rattle.plist_value.specs.Limits.{nodes, depth, payload, nodes_of_items, depth_of_items}
+use Rattle.plist_value.specs.Limits.{payload_of_items, nodes_of_pairs, depth_of_pairs}
+use Rattle.plist_value.specs.Limits.{payload_of_pairs}
 use Rattle.plist_object.specs.Spelled.{Spells, SpellItems, SpellPairs}
 use Rattle.plist_value.specs.declared.budget.Budget.{Budget}
 use Rattle.plist_binary.specs.declared.fault.BinaryFault.{BinaryFault}
@@ -13,7 +16,8 @@ use Rattle.plist_binary.specs.Faults.{Stands}
 
 -- the object encodes the value, which is at most `levels` deep and takes the difference of the
 -- budgets
-pub record Reads (f : List ℕ) (i levels : ℕ) (before : Budget) (v : Plist) (after : Budget) : Type 0 where
+pub record Reads (f : List ℕ) (i levels : ℕ) (before : Budget) (v : Plist)
+    (after : Budget) : Type 0 where
   pub spells : Spells f i v
   pub valid : IsPlist v
   pub deep : depth v ≤ levels
@@ -23,18 +27,22 @@ pub record Reads (f : List ℕ) (i levels : ℕ) (before : Budget) (v : Plist) (
 -- levels within the budget left
 pub record Refuses (f : List ℕ) (i levels : ℕ) (left : Budget) (fault : BinaryFault) : Type 0 where
   pub stands : Stands f fault
-  pub none : UnlessMemory fault ((v : Plist) → IsPlist v → Spells f i v → depth v ≤ levels → Affords left (nodes v) (payload v) → ⊥)
+  pub none : UnlessMemory fault ((v : Plist) → IsPlist v → Spells f i v → depth v ≤ levels
+      → Affords left (nodes v) (payload v) → ⊥)
 
 -- the references point to the items, in order
-pub record ReadsItems (f refs : List ℕ) (levels : ℕ) (before : Budget) (vs : Items) (after : Budget) : Type 0 where
+pub record ReadsItems (f refs : List ℕ) (levels : ℕ) (before : Budget) (vs : Items)
+    (after : Budget) : Type 0 where
   pub spell : SpellItems f refs vs
   pub valid : AreItems vs
   pub deep : depth_of_items vs ≤ levels
   pub spent : Spends before (nodes_of_items vs) (payload_of_items vs) after
 
-pub record RefusesItems (f refs : List ℕ) (levels : ℕ) (left : Budget) (fault : BinaryFault) : Type 0 where
+pub record RefusesItems (f refs : List ℕ) (levels : ℕ) (left : Budget)
+    (fault : BinaryFault) : Type 0 where
   pub stands : Stands f fault
-  pub none : UnlessMemory fault ((vs : Items) → AreItems vs → SpellItems f refs vs → depth_of_items vs ≤ levels → Affords left (nodes_of_items vs) (payload_of_items vs) → ⊥)
+  pub none : UnlessMemory fault ((vs : Items) → AreItems vs → SpellItems f refs vs
+      → depth_of_items vs ≤ levels → Affords left (nodes_of_items vs) (payload_of_items vs) → ⊥)
 
 -- strings as items
 abbrev pub texts : List (List ℕ) → Items
@@ -47,17 +55,23 @@ pub record ReadsKey (f : List ℕ) (i levels : ℕ) (before after : Budget) : Ty
   pub reads : Reads f i levels before (scalar (text units)) after
 
 -- the fault is true, and the object is not a string within the budget
-pub record RefusesKey (f : List ℕ) (i levels : ℕ) (left : Budget) (fault : BinaryFault) : Type 0 where
+pub record RefusesKey (f : List ℕ) (i levels : ℕ) (left : Budget)
+    (fault : BinaryFault) : Type 0 where
   pub stands : Stands f fault
-  pub none : UnlessMemory fault ((units : List ℕ) → IsPlist (scalar (text units)) → Spells f i (scalar (text units)) → 1 ≤ levels → Affords left 1 (2 * length units) → ⊥)
+  pub none : UnlessMemory fault ((units : List ℕ) → IsPlist (scalar (text units))
+      → Spells f i (scalar (text units)) → 1 ≤ levels → Affords left 1 (2 * length units) → ⊥)
 
 -- the fault is true, and the references do not point to strings within the budget
-pub record RefusesKeys (f refs : List ℕ) (levels : ℕ) (left : Budget) (fault : BinaryFault) : Type 0 where
+pub record RefusesKeys (f refs : List ℕ) (levels : ℕ) (left : Budget)
+    (fault : BinaryFault) : Type 0 where
   pub stands : Stands f fault
-  pub none : UnlessMemory fault ((keys : List (List ℕ)) → AreItems (texts keys) → SpellItems f refs (texts keys) → depth_of_items (texts keys) ≤ levels → Affords left (nodes_of_items (texts keys)) (payload_of_items (texts keys)) → ⊥)
+  pub none : UnlessMemory fault ((keys : List (List ℕ)) → AreItems (texts keys)
+      → SpellItems f refs (texts keys) → depth_of_items (texts keys) ≤ levels
+      → Affords left (nodes_of_items (texts keys)) (payload_of_items (texts keys)) → ⊥)
 
 -- the references to keys and to values give the pairs, which are in the order of the keys
-pub record ReadsPairs (f refs others : List ℕ) (levels : ℕ) (before : Budget) (ps : Pairs) (after : Budget) : Type 0 where
+pub record ReadsPairs (f refs others : List ℕ) (levels : ℕ) (before : Budget) (ps : Pairs)
+    (after : Budget) : Type 0 where
   pub rows : List (ℕ × ℕ)
   pub moved : IsPermutation (zip refs others) rows
   pub spell : SpellPairs f rows ps
@@ -65,6 +79,9 @@ pub record ReadsPairs (f refs others : List ℕ) (levels : ℕ) (before : Budget
   pub deep : depth_of_pairs ps ≤ levels
   pub spent : Spends before (nodes_of_pairs ps) (payload_of_pairs ps) after
 
-pub record RefusesPairs (f refs others : List ℕ) (levels : ℕ) (left : Budget) (fault : BinaryFault) : Type 0 where
+pub record RefusesPairs (f refs others : List ℕ) (levels : ℕ) (left : Budget)
+    (fault : BinaryFault) : Type 0 where
   pub stands : Stands f fault
-  pub none : UnlessMemory fault ((rows : List (ℕ × ℕ)) (ps : Pairs) → IsPermutation (zip refs others) rows → SpellPairs f rows ps → ArePairs ps → depth_of_pairs ps ≤ levels → Affords left (nodes_of_pairs ps) (payload_of_pairs ps) → ⊥)
+  pub none : UnlessMemory fault ((rows : List (ℕ × ℕ)) (ps : Pairs)
+      → IsPermutation (zip refs others) rows → SpellPairs f rows ps → ArePairs ps
+      → depth_of_pairs ps ≤ levels → Affords left (nodes_of_pairs ps) (payload_of_pairs ps) → ⊥)

@@ -41,5 +41,7 @@ pub record ReadsApart (f refs : List ℕ) (levels : ℕ) (before after : Budget)
 
 -- With these references to keys the dictionary encodes no pairs, whatever its values are, and the
 -- fault is true.
-pub record RefusesTable (f : List ℕ) (table : ℕ) (refs : List ℕ) (levels : ℕ) (left : Budget) (fault : BinaryFault) : Type 0 where
-  pub each : (values : List ℕ) → Holds f table (holds_table refs values) → RefusesPairs f refs values levels left fault
+pub record RefusesTable (f : List ℕ) (table : ℕ) (refs : List ℕ) (levels : ℕ) (left : Budget)
+    (fault : BinaryFault) : Type 0 where
+  pub each : (values : List ℕ) → Holds f table (holds_table refs values)
+      → RefusesPairs f refs values levels left fault

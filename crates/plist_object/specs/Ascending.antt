@@ -18,7 +18,8 @@ pub record AreInOrder (f : List ℕ) (i j : ℕ) : Type 0 where
 
 -- each reference points to a string that is below the next
 abbrev pub AscendInTurn : List ℕ → List ℕ → Type 0
-AscendInTurn f keys = (k : ℕ) → suc k < length keys → AreInOrder f (slice_index keys k) (slice_index keys (suc k))
+AscendInTurn f keys = (k : ℕ) → suc k < length keys
+    → AreInOrder f (slice_index keys k) (slice_index keys (suc k))
 
 -- each reference points to a string, and each string is below the next
 pub record AreAscending (f keys : List ℕ) : Type 0 where

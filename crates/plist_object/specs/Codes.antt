@@ -5,9 +5,13 @@ use Rattle.plist_value.specs.declared.refusals.Place.TheVariants.{Nowhere}
 use Rattle.plist_value.specs.declared.refusals.Refusal.TheVariants as refusal
 use Rattle.plist_value.specs.declared.refusals.Report.{Report}
 use Rattle.plist_object.specs.declared.layout.LayoutFault.{LayoutFault}
-use Rattle.plist_object.specs.declared.layout.LayoutFault.TheVariants.{TooShort, BadHeader, BadTrailer}
+use Rattle.plist_object.specs.declared.layout.LayoutFault.TheVariants.{TooShort, BadHeader}
+use Rattle.plist_object.specs.declared.layout.LayoutFault.TheVariants.{BadTrailer}
 use Rattle.plist_object.specs.declared.object.ObjectFault.{ObjectFault}
-use Rattle.plist_object.specs.declared.object.ObjectFault.TheVariants.{BadOffset, CutObject, BadMarker, NullObject, UidObject, SetObject, NotAscii, WideInteger}
+use Rattle.plist_object.specs.declared.object.ObjectFault.TheVariants.{BadOffset, CutObject}
+use Rattle.plist_object.specs.declared.object.ObjectFault.TheVariants.{BadMarker, NullObject}
+use Rattle.plist_object.specs.declared.object.ObjectFault.TheVariants.{UidObject, SetObject}
+use Rattle.plist_object.specs.declared.object.ObjectFault.TheVariants.{NotAscii, WideInteger}
 
 abbrev pub layout_report : LayoutFault → Report
 layout_report TooShort = reports refusal.TooShort Nowhere

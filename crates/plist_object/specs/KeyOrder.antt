@@ -1,5 +1,6 @@
 -- What the key order keeps of dictionaries, and the rows that it sorts.
-use Rattle.std.specs.Prelude.{◌≡◌, ◌↔◌, ℕ, ◌+◌, ◌*◌, ◌^◌, ◌<◌, Bool, IsTrue, List, [], All, EachIndex, IfSome, length, map, slice_index, slice_index_or}
+use Rattle.std.specs.Prelude.{◌≡◌, ◌↔◌, ℕ, ◌+◌, ◌*◌, ◌^◌, ◌<◌, Bool, IsTrue, List, [], All}
+use Rattle.std.specs.Prelude.{EachIndex, IfSome, length, map, slice_index, slice_index_or}
 use Rattle.std.specs.declared.cmp.Ordering.{Ordering}
 use Rattle.std.specs.declared.cmp.Ordering.TheVariants.{Less}
 use Rattle.std.specs.Ordering.{nat_cmp, on, then_cmp}
@@ -35,7 +36,8 @@ units_at texts row = string_at texts row.place
 
 -- the reference at this position points to the string there
 abbrev pub HoldsString : List ℕ → List ℕ → List TextRef → ℕ → Type 0
-HoldsString f keys texts place = Holds f (slice_index keys place) (holds_scalar (text (string_at texts place)))
+HoldsString f keys texts place =
+    Holds f (slice_index keys place) (holds_scalar (text (string_at texts place)))
 
 -- the strings of the keys
 pub record AreTexts (f keys : List ℕ) (texts : List TextRef) : Type 0 where
@@ -44,12 +46,14 @@ pub record AreTexts (f keys : List ℕ) (texts : List TextRef) : Type 0 where
 
 -- the number is the rank of the string
 abbrev pub IsRankOf : Ranks → ℕ → List ℕ → Type 0
-IsRankOf ranks rank units = (rank < length (texts_of ranks)) × (slice_index_or (texts_of ranks) rank [] ≡ units)
+IsRankOf ranks rank units = (rank < length (texts_of ranks))
+    × (slice_index_or (texts_of ranks) rank [] ≡ units)
 
 -- a lower number means a lower string
 abbrev pub TellsOrder : List TextRef → Row → Row → Type 0
 TellsOrder texts row other =
-    number_of row < number_of other → slice_cmp nat_cmp (units_at texts row) (units_at texts other) ≡ Less
+    number_of row < number_of other → slice_cmp nat_cmp (units_at texts row) (units_at texts other)
+    ≡ Less
 
 -- by numbers, and by strings if these are equal
 abbrev pub by_number : List TextRef → Row → Row → Ordering
@@ -72,6 +76,7 @@ places_of order = order.places.items
 
 -- what is kept of the last dictionary is correct, and the ranks are those of this file
 pub record IsReady (f : List ℕ) (order : KeyOrder) : Type 0 where
-  pub last : IfSome order.last (λ keys. IsLast f (numbers_of keys) order.places.items order.distinct)
+  pub last : IfSome order.last
+      (λ keys. IsLast f (numbers_of keys) order.places.items order.distinct)
   pub ascending : IfSome order.ascending (λ keys. AreAscending f (numbers_of keys))
   pub ranks : AreRanks f order.ranks

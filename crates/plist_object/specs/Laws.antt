@@ -7,4 +7,5 @@ use Rattle.plist_object.specs.Spelled.{Spells}
 -- no file encodes two values at its top object
 abbrev pub OneValueAtTop : Type 0
 OneValueAtTop =
-    (f : List ℕ) (v w : Plist) → IsPlist v → IsPlist w → Spells f (trailer_of f).top v → Spells f (trailer_of f).top w → v ≡ w
+    (f : List ℕ) (v w : Plist) → IsPlist v → IsPlist w → Spells f (trailer_of f).top v
+    → Spells f (trailer_of f).top w → v ≡ w

@@ -1,9 +1,11 @@
 -- The layout of a binary property list: the header, objects, the offset table, and a trailer of 32
 -- bytes (CFBinaryPList.c; the bounds of the numbers are our profile).
-use Rattle.std.specs.Prelude.{◌≡◌, ◌≢◌, ℕ, ◌+◌, ◌-◌, ◌*◌, ◌<◌, ◌≤◌, List, [], ◌∷◌, length, take, drop, slice_index}
+use Rattle.std.specs.Prelude.{◌≡◌, ◌≢◌, ℕ, ◌+◌, ◌-◌, ◌*◌, ◌<◌, ◌≤◌, List, [], ◌∷◌, length, take}
+use Rattle.std.specs.Prelude.{drop, slice_index}
 use Rattle.byteorder.specs.Endian.{big_number}
 use Rattle.plist_object.specs.declared.layout.LayoutFault.{LayoutFault}
-use Rattle.plist_object.specs.declared.layout.LayoutFault.TheVariants.{TooShort, BadHeader, BadTrailer}
+use Rattle.plist_object.specs.declared.layout.LayoutFault.TheVariants.{TooShort, BadHeader}
+use Rattle.plist_object.specs.declared.layout.LayoutFault.TheVariants.{BadTrailer}
 
 -- `bplist00`
 abbrev pub header : List ℕ
@@ -55,4 +57,5 @@ pub record IsLaid (f : List ℕ) : Type 0 where
 abbrev pub IsLayoutFault : LayoutFault → List ℕ → Type 0
 IsLayoutFault TooShort f = length f < 42
 IsLayoutFault BadHeader f = (42 ≤ length f) × (take 8 f ≢ header)
-IsLayoutFault BadTrailer f = (42 ≤ length f) × (take 8 f ≡ header) × ¬ IsTrailer (length f) (trailer_of f)
+IsLayoutFault BadTrailer f = (42 ≤ length f) × (take 8 f ≡ header)
+    × ¬ IsTrailer (length f) (trailer_of f)

@@ -1,12 +1,18 @@
 -- The content of one object (CFBinaryPList.c; the errors and their order are our profile).
-use Rattle.std.specs.Prelude.{◌≡◌, ℕ, zero, suc, ◌+◌, ◌*◌, ◌/◌, ◌%◌, ◌==◌, nat_lt, if◌then◌else◌, ℤ, pos, true, false, List, [], ◌∷◌, length, take, drop, Result, Ok, Err, ⊤}
+use Rattle.std.specs.Prelude.{◌≡◌, ℕ, zero, suc, ◌+◌, ◌*◌, ◌/◌, ◌%◌, ◌==◌, nat_lt, if◌then◌else◌, ℤ}
+use Rattle.std.specs.Prelude.{pos, true, false, List, [], ◌∷◌, length, take, drop, Result, Ok, Err}
+use Rattle.std.specs.Prelude.{⊤}
 use Rattle.std.specs.List.{list_all}
 use Rattle.std.specs.Int.{w64, cast_signed}
 use Rattle.byteorder.specs.Endian.{big_number}
-use Rattle.plist_value.specs.Plist.{Scalar, text, whole, flag, real4, real8, moment, bytes, IsScalar}
+use Rattle.plist_value.specs.Plist.{Scalar, text, whole, flag, real4, real8, moment, bytes}
+use Rattle.plist_value.specs.Plist.{IsScalar}
 use Rattle.plist_value.specs.Texts.{wide_units}
 use Rattle.plist_object.specs.declared.object.ObjectFault.{ObjectFault}
-use Rattle.plist_object.specs.declared.object.ObjectFault.TheVariants.{CutObject, BadMarker, NullObject, UidObject, SetObject, NotAscii, WideInteger}
+use Rattle.plist_object.specs.declared.object.ObjectFault.TheVariants.{CutObject, BadMarker}
+use Rattle.plist_object.specs.declared.object.ObjectFault.TheVariants.{NullObject, UidObject}
+use Rattle.plist_object.specs.declared.object.ObjectFault.TheVariants.{SetObject, NotAscii}
+use Rattle.plist_object.specs.declared.object.ObjectFault.TheVariants.{WideInteger}
 
 -- a scalar, the references of an array, or the references of a dictionary to its keys and to its
 -- values
@@ -22,7 +28,8 @@ IsHeld (holds_list refs) = ⊤
 IsHeld (holds_table keys values) = length keys ≡ length values
 
 infixl 10 ◌>>=◌
-abbrev pub ◌>>=◌ : {A B : Type 0} → Result A ObjectFault → (A → Result B ObjectFault) → Result B ObjectFault
+abbrev pub ◌>>=◌ : {A B : Type 0} → Result A ObjectFault → (A → Result B ObjectFault)
+    → Result B ObjectFault
 (Ok x) >>= f = f x
 (Err e) >>= f = Err e
 
@@ -63,7 +70,8 @@ content unit low octets = do
 -- the first eight are zero.
 abbrev pub whole_in : ℕ → List ℕ → Result ℤ ObjectFault
 whole_in n octets =
-    if n == 16 then (if big_number 8 octets == 0 then Ok (pos (big_number 8 (drop 8 octets))) else Err WideInteger)
+    if n == 16 then (if big_number 8 octets == 0 then Ok (pos (big_number 8 (drop 8 octets)))
+    else Err WideInteger)
     else (if n == 8 then Ok (cast_signed w64 (big_number 8 octets))
     else Ok (pos (big_number n octets)))
 
@@ -105,7 +113,8 @@ data_object low octets = do
 unfoldable pub ascii_object : ℕ → List ℕ → Result (Held × List ℕ) ObjectFault
 ascii_object low octets = do
   c ← content 1 low octets
-  if list_all (λ octet. nat_lt octet 128) c.1 then Ok (holds_scalar (text c.1), c.2) else Err NotAscii
+  if list_all (λ octet. nat_lt octet 128) c.1 then Ok (holds_scalar (text c.1), c.2)
+  else Err NotAscii
 
 unfoldable pub wide_object : ℕ → List ℕ → Result (Held × List ℕ) ObjectFault
 wide_object low octets = do

@@ -1,5 +1,6 @@
 -- Where the objects of a file with the layout are, and their content.
-use Rattle.std.specs.Prelude.{◌≡◌, ℕ, ◌+◌, ◌-◌, ◌*◌, ◌<◌, nat_lt, nat_le, ◌&&◌, if◌then◌else◌, List, length, take, drop, slice_index_or, Result, Ok, Err}
+use Rattle.std.specs.Prelude.{◌≡◌, ℕ, ◌+◌, ◌-◌, ◌*◌, ◌<◌, nat_lt, nat_le, ◌&&◌, if◌then◌else◌, List}
+use Rattle.std.specs.Prelude.{length, take, drop, slice_index_or, Result, Ok, Err}
 use Rattle.byteorder.specs.Endian.{big_number}
 use Rattle.plist_value.specs.Plist.{Scalar, text}
 use Rattle.plist_object.specs.Layout.{trailer_of}
@@ -9,7 +10,8 @@ use Rattle.plist_object.specs.declared.object.ObjectFault.TheVariants.{BadOffset
 
 -- entry i of the offset table
 abbrev pub place_of : List ℕ → ℕ → ℕ
-place_of f i = let x = trailer_of f in big_number x.offset_width (drop (x.table + i * x.offset_width) f)
+place_of f i = let x = trailer_of f
+    in big_number x.offset_width (drop (x.table + i * x.offset_width) f)
 
 -- the bytes from an offset up to the offset table, if the offset is after the header and before the
 -- offset table
@@ -24,7 +26,8 @@ octets_at f i = octets_from f (place_of f i)
 
 -- the byte at the offset of object i, or 0 if that is not before the offset table
 abbrev pub marker_at : List ℕ → ℕ → ℕ
-marker_at f i = let place = place_of f i in if nat_lt place (trailer_of f).table then slice_index_or f place 0 else 0
+marker_at f i = let place = place_of f i in if nat_lt place (trailer_of f).table
+    then slice_index_or f place 0 else 0
 
 -- the content of object i and the bytes after it up to the offset table, or its first error
 unfoldable pub object_at : List ℕ → ℕ → Result (Held × List ℕ) ObjectFault

@@ -1,7 +1,8 @@
 -- The sort prefix of a string: the number of its first eight bytes after the units that it shares
 -- with all strings it is sorted with. These are the keys of a dictionary, or a run of them whose
 -- prefixes so far are equal.
-use Rattle.std.specs.Prelude.{◌≡◌, ℕ, zero, suc, ◌+◌, ◌*◌, ◌^◌, nat_lt, List, [], ◌∷◌, All, map, take, drop, if◌then◌else◌}
+use Rattle.std.specs.Prelude.{◌≡◌, ℕ, zero, suc, ◌+◌, ◌*◌, ◌^◌, nat_lt, List, [], ◌∷◌, All, map}
+use Rattle.std.specs.Prelude.{take, drop, if◌then◌else◌}
 use Rattle.std.specs.List.Sorted.{IsNonDecreasingBy, IsPermutation}
 use Rattle.plist_value.specs.declared.text_ref.TextRef.{TextRef}
 use Rattle.plist_object.specs.declared.order.Row.{Row}

@@ -1,5 +1,6 @@
 -- Ranks: the sort positions of the strings that are keys of dictionaries.
-use Rattle.std.specs.Prelude.{◌≡◌, ℕ, zero, suc, ◌<◌, length, List, [], Option, Some, None, slice_index_or, slice_get, map, All}
+use Rattle.std.specs.Prelude.{◌≡◌, ℕ, zero, suc, ◌<◌, length, List, [], Option, Some, None}
+use Rattle.std.specs.Prelude.{slice_index_or, slice_get, map, All}
 use Rattle.std.specs.declared.cmp.Ordering.{Ordering}
 use Rattle.std.specs.Ordering.{nat_cmp, ordering_then}
 use Rattle.std.specs.Cmp.Lexicographic.{slice_cmp}
@@ -24,7 +25,9 @@ HoldsKey f key = HoldsUnits f key.object (units_of key.text)
 
 -- by strings, and by object numbers if these are equal
 abbrev pub in_order : Key → Key → Ordering
-in_order a b = ordering_then (slice_cmp nat_cmp (units_of a.text) (units_of b.text)) (nat_cmp a.object b.object)
+in_order a b =
+    ordering_then (slice_cmp nat_cmp (units_of a.text) (units_of b.text))
+    (nat_cmp a.object b.object)
 
 -- each entry is a string that its object contains, and each object has a mark for whether it was
 -- seen
@@ -57,4 +60,5 @@ texts_of ranks = map units_of ranks.texts.items
 pub record AreRanks (f : List ℕ) (ranks : Ranks) : Type 0 where
   pub ascending : IsStrictlySortedBy (slice_cmp nat_cmp) (texts_of ranks)
   pub within : (i rank : ℕ) → rank_of ranks i ≡ Some rank → rank < length (texts_of ranks)
-  pub held : (i rank : ℕ) → rank_of ranks i ≡ Some rank → HoldsUnits f i (slice_index_or (texts_of ranks) rank [])
+  pub held : (i rank : ℕ) → rank_of ranks i ≡ Some rank
+      → HoldsUnits f i (slice_index_or (texts_of ranks) rank [])

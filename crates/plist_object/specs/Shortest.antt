@@ -1,5 +1,6 @@
 -- Objects that have their canonical encoding.
-use Rattle.std.specs.Prelude.{◌≡◌, ◌<◌, ◌≤◌, ◌*◌, ℕ, ℤ, nat_lt, false, List, [], ◌∷◌, ◌++◌, length, take, drop, Ok}
+use Rattle.std.specs.Prelude.{◌≡◌, ◌<◌, ◌≤◌, ◌*◌, ℕ, ℤ, nat_lt, false, List, [], ◌∷◌, ◌++◌, length}
+use Rattle.std.specs.Prelude.{take, drop, Ok}
 use Rattle.std.specs.List.{list_all}
 use Rattle.plist_value.specs.Plist.{Scalar, IsWhole}
 use Rattle.plist_value.specs.Texts.{wide_units}
@@ -8,7 +9,8 @@ use Rattle.plist_object.specs.Objects.{Held, holds_scalar, holds_list, holds_tab
 use Rattle.plist_object.specs.Places.{octets_at, what_holds}
 use Rattle.plist_object.specs.Heads.{Begins}
 use Rattle.plist_object.specs.Sizes.{head_size}
-use Rattle.plist_object.specs.Spelling.{head, scalar_spelling, whole_spelling, list_spelling, table_spelling}
+use Rattle.plist_object.specs.Spelling.{head, scalar_spelling, whole_spelling, list_spelling}
+use Rattle.plist_object.specs.Spelling.{table_spelling}
 use Rattle.plist_object.specs.Views.{first_of}
 
 -- the canonical encoding of the content, with references of `width` bytes
@@ -35,7 +37,8 @@ pub record BeginsShort (kind count : ℕ) (octets : List ℕ) : Type 0 where
 -- one of the `count` units after marker and count is not ASCII
 abbrev pub HasWideUnit : ℕ → List ℕ → Type 0
 HasWideUnit count octets =
-    list_all (λ u. nat_lt u 128) (wide_units (take (2 * count) (drop (head_size count) octets))) ≡ false
+    list_all (λ u. nat_lt u 128) (wide_units (take (2 * count) (drop (head_size count) octets)))
+    ≡ false
 
 -- each scalar with this marker has n bytes, which are its canonical encoding
 pub data IsFixed : ℕ → ℕ → Type 0 where

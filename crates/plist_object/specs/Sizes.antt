@@ -1,5 +1,6 @@
 -- Bounds on the size of encoded objects, and the size of a marker with its count.
-use Rattle.std.specs.Prelude.{ℕ, ◌+◌, ◌<◌, ◌^◌, nat_lt, if◌then◌else◌, length, ⊤, IsTrue, ◌==◌, ◌||◌}
+use Rattle.std.specs.Prelude.{ℕ, ◌+◌, ◌<◌, ◌^◌, nat_lt, if◌then◌else◌, length, ⊤, IsTrue, ◌==◌}
+use Rattle.std.specs.Prelude.{◌||◌}
 use Rattle.plist_value.specs.Plist.{Scalar, text, whole, flag, real4, real8, moment, bytes}
 use Rattle.plist_object.specs.Spelling.{least_width}
 

@@ -2,7 +2,8 @@
 use Rattle.std.specs.Prelude.{◌≡◌, ℕ, ◌≤◌, List, [], ◌∷◌}
 use Rattle.std.specs.List.{zip}
 use Rattle.std.specs.List.Sorted.{IsPermutation}
-use Rattle.plist_value.specs.Plist.{text, Plist, scalar, list, table, Items, no_items, item, Pairs, no_pairs, pair, AreOctets, IsPlist}
+use Rattle.plist_value.specs.Plist.{text, Plist, scalar, list, table, Items, no_items, item, Pairs}
+use Rattle.plist_value.specs.Plist.{no_pairs, pair, AreOctets, IsPlist}
 use Rattle.plist_value.specs.Limits.{depth, Fits}
 use Rattle.plist_object.specs.Layout.{trailer_of, IsLaid}
 use Rattle.plist_object.specs.Objects.{holds_scalar, holds_list, holds_table}
@@ -14,7 +15,11 @@ abbrev mutual
   Spells f i (scalar s) = Holds f i (holds_scalar s)
   Spells f i (list vs) = (refs : List ℕ) × (Holds f i (holds_list refs) × SpellItems f refs vs)
   Spells f i (table ps) =
-      (keys : List ℕ) × ((values : List ℕ) × ((rows : List (ℕ × ℕ)) × (Holds f i (holds_table keys values) × (IsPermutation (zip keys values) rows × SpellPairs f rows ps))))
+      (keys : List ℕ)
+      × ((values : List ℕ)
+      × ((rows : List (ℕ × ℕ))
+      × (Holds f i (holds_table keys values)
+      × (IsPermutation (zip keys values) rows × SpellPairs f rows ps))))
 
   -- the references encode the items in order
   pub SpellItems : List ℕ → List ℕ → Items → Type 0
@@ -26,7 +31,8 @@ abbrev mutual
   pub SpellPairs : List ℕ → List (ℕ × ℕ) → Pairs → Type 0
   SpellPairs f rows no_pairs = rows ≡ []
   SpellPairs f [] (pair key v ps) = ⊥
-  SpellPairs f (row ∷ rows) (pair key v ps) = Holds f row.0 (holds_scalar (text key)) × Spells f row.1 v × SpellPairs f rows ps
+  SpellPairs f (row ∷ rows) (pair key v ps) = Holds f row.0 (holds_scalar (text key))
+      × Spells f row.1 v × SpellPairs f rows ps
 
 -- the object encodes a value of at most `levels` levels
 pub record SpellsWithin (f : List ℕ) (i levels : ℕ) : Type 0 where

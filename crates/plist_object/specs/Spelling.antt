@@ -1,16 +1,19 @@
 -- The one canonical encoding of an object (our profile).
-use Rattle.std.specs.Prelude.{ℕ, ◌+◌, ◌-◌, ◌*◌, nat_lt, if◌then◌else◌, ℤ, pos, negsuc, List, [], ◌∷◌, ◌++◌, length, replicate}
+use Rattle.std.specs.Prelude.{ℕ, ◌+◌, ◌-◌, ◌*◌, nat_lt, if◌then◌else◌, ℤ, pos, negsuc, List, []}
+use Rattle.std.specs.Prelude.{◌∷◌, ◌++◌, length, replicate}
 use Rattle.std.specs.List.{list_all, flat_map}
 use Rattle.byteorder.specs.Endian.{big_bytes}
 use Rattle.plist_value.specs.Plist.{Scalar, text, whole, flag, real4, real8, moment, bytes}
 
 -- the least of 1, 2, 4 and 8 bytes that n fits in
 abbrev pub least_width : ℕ → ℕ
-least_width n = if nat_lt n 256 then 1 else (if nat_lt n 65536 then 2 else (if nat_lt n 4294967296 then 4 else 8))
+least_width n = if nat_lt n 256 then 1
+    else (if nat_lt n 65536 then 2 else (if nat_lt n 4294967296 then 4 else 8))
 
 -- the marker of an integer of 1, 2, 4 or 8 bytes
 abbrev pub integer_marker : ℕ → ℕ
-integer_marker n = if nat_lt n 256 then 16 else (if nat_lt n 65536 then 17 else (if nat_lt n 4294967296 then 18 else 19))
+integer_marker n = if nat_lt n 256 then 16
+    else (if nat_lt n 65536 then 17 else (if nat_lt n 4294967296 then 18 else 19))
 
 -- a number that is not negative, in the least width
 abbrev pub least_integer : ℕ → List ℕ
@@ -32,7 +35,8 @@ references width refs = flat_map (λ r. big_bytes width r) refs
 
 abbrev pub text_spelling : List ℕ → List ℕ
 text_spelling units =
-    if list_all (λ u. nat_lt u 128) units then head 5 (length units) ++ units else head 6 (length units) ++ references 2 units
+    if list_all (λ u. nat_lt u 128) units then head 5 (length units) ++ units
+    else head 6 (length units) ++ references 2 units
 
 abbrev pub scalar_spelling : Scalar → List ℕ
 scalar_spelling (text units) = text_spelling units
@@ -47,4 +51,5 @@ abbrev pub list_spelling : ℕ → List ℕ → List ℕ
 list_spelling width refs = head 10 (length refs) ++ references width refs
 
 abbrev pub table_spelling : ℕ → List ℕ → List ℕ → List ℕ
-table_spelling width keys values = head 13 (length keys) ++ (references width keys ++ references width values)
+table_spelling width keys values = head 13 (length keys)
+    ++ (references width keys ++ references width values)
