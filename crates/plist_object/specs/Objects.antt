@@ -114,7 +114,7 @@ unfoldable pub ascii_object : ℕ → List ℕ → Result (Held × List ℕ) Obj
 ascii_object low octets = do
   c ← content 1 low octets
   if list_all (λ octet. nat_lt octet 128) c.1 then Ok (holds_scalar (text c.1), c.2)
-  else Err NotAscii
+      else Err NotAscii
 
 unfoldable pub wide_object : ℕ → List ℕ → Result (Held × List ℕ) ObjectFault
 wide_object low octets = do
