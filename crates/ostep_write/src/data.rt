@@ -32,9 +32,8 @@ fn write_digits<W: Sink>(octets: &[u8], out: &mut Output<W>) -> Result<(), Write
     let mut left = octets;
     while !left.is_empty() {
         let (front, behind) = left.split_at(left.len().min(RUN));
-        let Ok(()) = put_digits(out.waiting, front) else {
-            return Err(WriteFault::OutOfMemory { sent: out.sent });
-        };
+        let put = put_digits(out.waiting, front);
+        out.grown(put)?;
         out.settle()?;
         left = behind;
     }

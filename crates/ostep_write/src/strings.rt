@@ -38,9 +38,8 @@ fn write_units<W: Sink>(text: &TextRef, out: &mut Output<W>) -> Result<(), Write
 {
     let mut place = 0;
     while place < text.len() {
-        let Ok(next) = put_some(out.waiting, text, place) else {
-            return Err(WriteFault::OutOfMemory { sent: out.sent });
-        };
+        let put = put_some(out.waiting, text, place);
+        let next = out.grown(put)?;
         out.settle()?;
         place = next;
     }

@@ -97,9 +97,7 @@ pub fn write_canonical_with_hasher<S: BuildHasher + Copy, W: Sink>(
     ensures pieces { ArePieces (objects_of (preorder (view value.now)))
         (W.longest out.old) (W.longest out.new) }
 {
-    let Ok(octets) = binary_of(alloc, value) else {
-        return Err(WriteFault::OutOfMemory { sent: 0 });
-    };
+    let octets = binary_of(alloc, value)?;
     let Ok(file) = BinFile::of(&octets) else {
         unreachable!();
     };

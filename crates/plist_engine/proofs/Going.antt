@@ -4,6 +4,8 @@ use Rattle.std.proofs.KnownBytes.{Appends-nil, Appends-trans}
 use Rattle.std.proofs.Math.Seq.{take-append-add}
 use Rattle.std.proofs.lemmas.List.{append-nil, take-append-le}
 use Rattle.std.specs.Io.KnownBytes.{Appends}
+use Rattle.std.specs.Prelude.{IsErr, IfOk, IfErr, OnOk}
+use Rattle.std.specs.declared.alloc.AllocError.{AllocError}
 use Rattle.plist_devices.specs.Count.{one_more}
 use Rattle.plist_engine.specs.declared.faults.WriteFault.{WriteFault}
 use Rattle.plist_engine.specs.declared.faults.WriteFault.TheVariants.{OutOfMemory, WriteFailed}
@@ -111,6 +113,17 @@ Goes_out octets items p = record {
   done = tt;
   stopped = record { more = 0; sent = omega arith; within = omega arith; taken = Appends-nil p.taken; blamed = refl };
 }
+
+-- the bytes are buffered, or there was no memory for them
+pub Goes_grown : {T : Type 0} (octets items : List ℕ) (p : State) (growth : Result T AllocError) (result : Result T WriteFault) → OnOk growth (items ≡ p.waiting ++ octets) → IfOk result (λ value. growth ≡ Ok value) → IfErr result (λ fault. IsErr growth × (fault ≡ OutOfMemory p.sent)) → Goes octets p (record p { waiting = items }) result
+Goes_grown octets items p growth (Ok value) put is refused =
+    let put = rw is at put in
+    record {
+      stays = record { sink = refl; device = refl };
+      done = record { gone = []; whole = sym put; taken = Appends-nil p.taken; sent = omega arith; failures = refl };
+      stopped = tt;
+    }
+Goes_grown octets items p growth (Err fault) put is refused = rw (refused.1) (Goes_out octets items p)
 
 -- the remaining bytes fit if all did
 pub room_then : {T : Type 0} (a b : List ℕ) (p q : State) (value : T) (bound : ℕ) → Goes a p q (Ok value) → p.sent + (length p.waiting + length (a ++ b)) < bound → q.sent + (length q.waiting + length b) < bound

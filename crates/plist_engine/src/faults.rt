@@ -1,8 +1,10 @@
 //! Errors of writing a file.
 ghost use Rattle.std.specs.Prelude.{◌≡◌};
 ghost use Rattle.plist_engine.specs.Sending.{write_code, write_report};
+ghost use Rattle.plist_engine.specs.declared.faults.WriteFault.TheVariants.{OutOfMemory};
 
 use plist_value::{Place, Refusal, Report};
+use std::alloc::AllocError;
 use std::fmt;
 use thiserror::Error;
 
@@ -44,5 +46,14 @@ impl fmt::Display for WriteFault {
     fn fmt<W: fmt::Write>(&self, f: &mut fmt::Formatter<W>) -> fmt::Result {
         let report = self.report();
         write!(f, "{report}")
+    }
+}
+
+/// Out of memory before the first byte was written.
+impl From<AllocError> for WriteFault {
+    ghost from_gives = { λ _ fault. fault ≡ OutOfMemory 0 };
+
+    fn from(_error: AllocError) -> WriteFault {
+        WriteFault::OutOfMemory { sent: 0 }
     }
 }

@@ -44,9 +44,8 @@ fn send_places<W: Sink>(width: u8, places: &[u64], out: &mut Output<W>) -> Resul
 {
     for place in places {
         out.make_room(u64::from(width))?;
-        let Ok(()) = put_number(out.waiting, width, *place) else {
-            return Err(WriteFault::OutOfMemory { sent: out.sent });
-        };
+        let put = put_number(out.waiting, width, *place);
+        out.grown(put)?;
     }
     Ok(())
 }
@@ -59,8 +58,7 @@ fn send_trailer<W: Sink>(count: u64, place: u64, out: &mut Output<W>) -> Result<
     ensures pieces { KeepsShort [] 0 (state_of W.Sink out.old) (state_of W.Sink out.new) result }
 {
     out.make_room(TRAILER)?;
-    let Ok(()) = put_trailer(out.waiting, count, place) else {
-        return Err(WriteFault::OutOfMemory { sent: out.sent });
-    };
+    let put = put_trailer(out.waiting, count, place);
+    out.grown(put)?;
     out.flush()
 }

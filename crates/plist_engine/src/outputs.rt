@@ -1,5 +1,6 @@
 //! A buffered writer over a sink.
-ghost use Rattle.std.specs.Prelude.{◌≡◌, ◌+◌, ◌≤◌, ◌^◌, ◌∷◌, ◌++◌, [], length, IfErr, OnOk};
+ghost use Rattle.std.specs.Prelude.{◌≡◌, ◌+◌, ◌≤◌, ◌^◌, ◌∷◌, ◌++◌, [], length, IfErr, IfOk};
+ghost use Rattle.std.specs.Prelude.{IsErr, OnOk};
 ghost use Rattle.plist_engine.specs.declared.faults.WriteFault.TheVariants.{OutOfMemory};
 ghost use Rattle.plist_engine.specs.declared.faults.WriteFault.TheVariants.{WriteFailed};
 ghost use Rattle.plist_engine.specs.Sending.{sent_of};
@@ -32,10 +33,25 @@ impl<'a, W: Sink> Output<'a, W> {
         ensures goes { Goes octets.now
             (state_of W.Sink self.old) (state_of W.Sink self.new) result }
     {
-        let Ok(()) = gather(self.waiting, octets) else {
-            return Err(WriteFault::OutOfMemory { sent: self.sent });
-        };
+        let gathered = gather(self.waiting, octets);
+        self.grown(gathered)?;
         self.settle()
+    }
+
+    /// Returns the value of a call that needs memory, such as one that appends to the buffer.
+    ///
+    /// # Errors
+    ///
+    /// [`WriteFault::OutOfMemory`] (60) exactly if `growth` is an error.
+    pub fn grown<T>(&self, growth: Result<T, AllocError>) -> Result<T, WriteFault>
+        ensures value { IfOk result (λ value. growth ≡ Ok value) }
+        ensures refused { IfErr result
+            (λ fault. IsErr growth × (fault ≡ OutOfMemory self.now.sent)) }
+    {
+        match growth {
+            Ok(value) => Ok(value),
+            Err(AllocError) => Err(WriteFault::OutOfMemory { sent: self.sent }),
+        }
     }
 
     /// Flushes the buffer if it has 4,096 bytes or more.

@@ -59,9 +59,7 @@ pub fn write_canonical_of<'a, S: BuildHasher + Copy, W: Sink>(
     ensures pieces { (v : Plist) → IsBinary (octets_of file.now) v
         → ArePieces (objects_of (preorder v)) (W.longest out.old) (W.longest out.new) }
 {
-    let Ok(objects) = objects_of(alloc, hasher, file) else {
-        return Err(WriteFault::OutOfMemory { sent: 0 });
-    };
+    let objects = objects_of(alloc, hasher, file)?;
     send_file(alloc, file, objects, out)
 }
 
@@ -86,9 +84,7 @@ fn send_file<W: Sink>(
     ensures pieces { ArePieces (octets_planned (least_width (length objects.originals.items))
         (octets_of file.now) objects) (W.longest sink.old) (W.longest sink.new) }
 {
-    let Ok(mut waiting) = Vec::from_slice(alloc, &HEADER) else {
-        return Err(WriteFault::OutOfMemory { sent: 0 });
-    };
+    let mut waiting = Vec::from_slice(alloc, &HEADER)?;
     let mut out = Output {
         sink,
         waiting: &mut waiting,
@@ -151,9 +147,7 @@ fn send_objects<W: Sink>(
     ensures pieces { KeepsShort (octets_planned width (octets_of file.now) objects.now) 0
         (state_of W.Sink out.old) (state_of W.Sink out.new) result }
 {
-    let Ok(mut places) = Vec::with_capacity(alloc, objects.originals.len()) else {
-        return Err(WriteFault::OutOfMemory { sent: out.sent });
-    };
+    let mut places = out.grown(Vec::with_capacity(alloc, objects.originals.len()))?;
     let mut numbers = objects.references.as_slice();
     let mut place = 8;
     for original in &objects.originals {
@@ -195,10 +189,8 @@ pub(crate) fn send_object<W: Sink>(
         }
         _ => {
             out.make_room(size)?;
-            let Ok(()) = put_object(out.waiting, width, object) else {
-                return Err(WriteFault::OutOfMemory { sent: out.sent });
-            };
-            Ok(())
+            let put = put_object(out.waiting, width, object);
+            out.grown(put)
         }
     }
 }
@@ -213,8 +205,7 @@ fn send_data<W: Sink>(octets: &[u8], out: &mut Output<W>) -> Result<(), WriteFau
         → length out.old.waiting.now.items + MOST_HEAD ≤ most → W.longest out.old.sink.now ≤ most
         → LeavesRoom most 0 (state_of W.Sink out.new) result }
 {
-    let Ok(()) = put_data_head(out.waiting, octets.len() as u64) else {
-        return Err(WriteFault::OutOfMemory { sent: out.sent });
-    };
+    let put = put_data_head(out.waiting, octets.len() as u64);
+    out.grown(put)?;
     out.send_long(octets)
 }

@@ -211,9 +211,7 @@ impl<'a> Writer<'a> {
         if keys.is_empty() {
             return N::write_mark(Mark::EmptyTable, out);
         }
-        let Ok(references) = in_turn(self.alloc, &self.file, order, keys, values) else {
-            return Err(WriteFault::OutOfMemory { sent: out.sent });
-        };
+        let references = out.grown(in_turn(self.alloc, &self.file, order, keys, values))?;
         N::write_mark(Mark::TableStart, out)?;
         self.pairs::<W, N>(order, &references, level + 1, out)?;
         end_lines::<W, N>(level, Mark::TableEnd, out)

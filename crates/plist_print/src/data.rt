@@ -26,9 +26,8 @@ pub(crate) fn print_data<W: Sink>(
     if octets.len() > LINE {
         return print_long_data(octets, level, out);
     }
-    let Ok(()) = put_short_data(out.waiting, octets) else {
-        return Err(WriteFault::OutOfMemory { sent: out.sent });
-    };
+    let put = put_short_data(out.waiting, octets);
+    out.grown(put)?;
     out.settle()
 }
 
@@ -64,9 +63,8 @@ fn print_lines<W: Sink>(octets: &[u8], level: u64, out: &mut Output<W>) -> Resul
 {
     let mut left = octets;
     while !left.is_empty() {
-        let Ok(behind) = put_front(out.waiting, level, left) else {
-            return Err(WriteFault::OutOfMemory { sent: out.sent });
-        };
+        let put = put_front(out.waiting, level, left);
+        let behind = out.grown(put)?;
         out.settle()?;
         left = behind;
     }

@@ -27,10 +27,8 @@ pub(crate) fn begin_pair<W: Sink>(
     if key.len() > SHORT {
         return begin_long_pair(key, level, out);
     }
-    let Ok(()) = put_pair_head(out.waiting, key, level) else {
-        return Err(WriteFault::OutOfMemory { sent: out.sent });
-    };
-    Ok(())
+    let put = put_pair_head(out.waiting, key, level);
+    out.grown(put)
 }
 
 // Begins the line of an entry whose key is too long for one piece.
@@ -65,9 +63,8 @@ pub(crate) fn end_lines<W: Sink>(
     ensures goes { Goes (indent level ++ (close ∷ 10 ∷ []))
         (state_of W.Sink out.old) (state_of W.Sink out.new) result }
 {
-    let Ok(()) = put_end(out.waiting, level, close) else {
-        return Err(WriteFault::OutOfMemory { sent: out.sent });
-    };
+    let put = put_end(out.waiting, level, close);
+    out.grown(put)?;
     out.settle()
 }
 
@@ -84,9 +81,8 @@ pub(crate) fn begin_line<W: Sink>(level: u64, out: &mut Output<W>) -> Result<(),
     ensures goes { Goes (indent level)
         (state_of W.Sink out.old) (state_of W.Sink out.new) result }
 {
-    let Ok(()) = put_indent(out.waiting, level) else {
-        return Err(WriteFault::OutOfMemory { sent: out.sent });
-    };
+    let put = put_indent(out.waiting, level);
+    out.grown(put)?;
     out.settle()
 }
 

@@ -47,9 +47,8 @@ fn print_short<W: Sink>(scalar: &ScalarRef, out: &mut Output<W>) -> Result<(), W
     ensures goes { Goes (printed_scalar (content_of scalar.now) ++ codes "\n")
         (state_of W.Sink out.old) (state_of W.Sink out.new) result }
 {
-    let Ok(()) = put_short_line(out.waiting, scalar) else {
-        return Err(WriteFault::OutOfMemory { sent: out.sent });
-    };
+    let put = put_short_line(out.waiting, scalar);
+    out.grown(put)?;
     out.settle()
 }
 
@@ -97,9 +96,8 @@ fn print_text_line<W: Sink>(text: &TextRef, out: &mut Output<W>) -> Result<(), W
     if text.len() > SHORT {
         return print_long_text(text, out);
     }
-    let Ok(()) = put_text_line(out.waiting, text) else {
-        return Err(WriteFault::OutOfMemory { sent: out.sent });
-    };
+    let put = put_text_line(out.waiting, text);
+    out.grown(put)?;
     out.settle()
 }
 
@@ -140,9 +138,8 @@ fn print_units<W: Sink>(text: &TextRef, out: &mut Output<W>) -> Result<(), Write
 {
     let mut place = 0;
     while place < text.len() {
-        let Ok(next) = put_some(out.waiting, text, place) else {
-            return Err(WriteFault::OutOfMemory { sent: out.sent });
-        };
+        let put = put_some(out.waiting, text, place);
+        let next = out.grown(put)?;
         out.settle()?;
         place = next;
     }

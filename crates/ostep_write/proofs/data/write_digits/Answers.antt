@@ -17,16 +17,16 @@ puts old new xs front left n is rest put = record {
   split = ap (flat_map two_digits) (sym (take-append-drop n xs)) ∙ flat_map-append two_digits (take n xs) (drop n xs) ∙ rw (is, rest) refl;
 }
 
-pub returns-in_default : goal.returns-in_default
-returns-in_default g c =
+pub returns-in_err-grown : goal.returns-in_err-grown
+returns-in_err-grown g c =
     let l = c.loop-left in
-    record { goes = no_piece l.invariant.done (flat_map two_digits l.left.now) (flat_map two_digits c.args.octets.now) c.put_digits.new.out.items (state_of g.W.Sink c.args.out.now) (state_of g.W.Sink l.out) l.invariant.split l.invariant.goes }
+    record { goes = refused c.from_residual.result c.from_residual.ensures.1 (rw (c.in_err-grown.ensures.refused.1) (no_piece l.invariant.done (flat_map two_digits l.left.now) (flat_map two_digits c.args.octets.now) c.put_digits-put.new.out.items (state_of g.W.Sink c.args.out.now) (state_of g.W.Sink l.out) l.invariant.split l.invariant.goes)) }
 
 pub returns-in_err-settle : goal.returns-in_err-settle
 returns-in_err-settle g c =
     let l = c.loop-left in
-    let put = puts l.out.waiting.now.items c.put_digits.new.out.items l.left.now c.split_at.result.0.now c.split_at.result.1.now c.min.result c.split_at.ensures.front c.split_at.ensures.back c.in-Ok.ensures in
-    record { goes = refused c.from_residual.result c.from_residual.ensures.1 (piece-stops l.invariant.done (flat_map two_digits l.left.now) (flat_map two_digits c.split_at.result.1.now) (flat_map two_digits c.args.octets.now) c.put_digits.new.out.items (state_of g.W.Sink c.args.out.now) (state_of g.W.Sink l.out) l.invariant.split l.invariant.goes put (state_of g.W.Sink c.settle.new.self) _ c.in_err-settle.ensures.goes) }
+    let put = puts l.out.waiting.now.items c.put_digits-put.new.out.items l.left.now c.split_at.result.0.now c.split_at.result.1.now c.min.result c.split_at.ensures.front c.split_at.ensures.back (rw c.in_ok-grown.ensures.value at c.put_digits-put.ensures) in
+    record { goes = refused c.from_residual-in_err-settle.result c.from_residual-in_err-settle.ensures.1 (piece-stops l.invariant.done (flat_map two_digits l.left.now) (flat_map two_digits c.split_at.result.1.now) (flat_map two_digits c.args.octets.now) c.put_digits-put.new.out.items (state_of g.W.Sink c.args.out.now) (state_of g.W.Sink l.out) l.invariant.split l.invariant.goes put (state_of g.W.Sink c.settle.new.self) _ c.in_err-settle.ensures.goes) }
 
 pub loop-left-preserved : goal.loop-left-preserved
 loop-left-preserved g c =
@@ -35,11 +35,11 @@ loop-left-preserved g c =
     let q = state_of g.W.Sink l.out in
     let all = flat_map two_digits c.args.octets.now in
     let rest = flat_map two_digits c.split_at.result.1.now in
-    let put = puts l.out.waiting.now.items c.put_digits.new.out.items l.left.now c.split_at.result.0.now c.split_at.result.1.now c.min.result c.split_at.ensures.front c.split_at.ensures.back c.in-Ok.ensures in
+    let put = puts l.out.waiting.now.items c.put_digits-put.new.out.items l.left.now c.split_at.result.0.now c.split_at.result.1.now c.min.result c.split_at.ensures.front c.split_at.ensures.back (rw c.in_ok-grown.ensures.value at c.put_digits-put.ensures) in
     record {
       done = l.invariant.done ++ put.piece;
-      split = piece-split l.invariant.done (flat_map two_digits l.left.now) rest all c.put_digits.new.out.items p q l.invariant.split l.invariant.goes put;
-      goes = piece-settled l.invariant.done (flat_map two_digits l.left.now) rest all c.put_digits.new.out.items p q l.invariant.split l.invariant.goes put (state_of g.W.Sink c.settle.new.self) _ c.in_ok-settle.ensures.goes;
+      split = piece-split l.invariant.done (flat_map two_digits l.left.now) rest all c.put_digits-put.new.out.items p q l.invariant.split l.invariant.goes put;
+      goes = piece-settled l.invariant.done (flat_map two_digits l.left.now) rest all c.put_digits-put.new.out.items p q l.invariant.split l.invariant.goes put (state_of g.W.Sink c.settle.new.self) _ c.in_ok-settle.ensures.goes;
     }
 
 empty : (xs : List ℕ) → length xs ≡ 0 → flat_map two_digits xs ≡ []

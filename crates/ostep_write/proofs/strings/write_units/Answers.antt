@@ -8,17 +8,17 @@ use Rattle.plist_engine.proofs.Steps.{piece-split, piece-settled, piece-stops, n
 use Rattle.ostep_text.specs.Written.{quoted_unit}
 use Rattle.ostep_write.proofs.strings.write_units.Goals as goal
 
-pub returns-in_default : goal.returns-in_default
-returns-in_default g c =
+pub returns-in_err-next : goal.returns-in_err-next
+returns-in_err-next g c =
     let us = units_of c.args.text.now in
     let l = c.loop-place in
-    record { goes = no_piece l.invariant.done (flat_map quoted_unit (drop l.place us)) (flat_map quoted_unit us) c.put_some.new.out.items (state_of g.W.Sink c.args.out.now) (state_of g.W.Sink l.out) l.invariant.split l.invariant.goes }
+    record { goes = refused c.from_residual.result c.from_residual.ensures.1 (rw (c.in_err-next.ensures.refused.1) (no_piece l.invariant.done (flat_map quoted_unit (drop l.place us)) (flat_map quoted_unit us) c.put_some-put.new.out.items (state_of g.W.Sink c.args.out.now) (state_of g.W.Sink l.out) l.invariant.split l.invariant.goes)) }
 
 pub returns-in_err-settle : goal.returns-in_err-settle
 returns-in_err-settle g c =
     let us = units_of c.args.text.now in
     let l = c.loop-place in
-    record { goes = refused c.from_residual.result c.from_residual.ensures.1 (piece-stops l.invariant.done (flat_map quoted_unit (drop l.place us)) (flat_map quoted_unit (drop c.in-Ok.next us)) (flat_map quoted_unit us) c.put_some.new.out.items (state_of g.W.Sink c.args.out.now) (state_of g.W.Sink l.out) l.invariant.split l.invariant.goes c.in-Ok.ensures.octets (state_of g.W.Sink c.settle.new.self) _ c.in_err-settle.ensures.goes) }
+    record { goes = refused c.from_residual-in_err-settle.result c.from_residual-in_err-settle.ensures.1 (piece-stops l.invariant.done (flat_map quoted_unit (drop l.place us)) (flat_map quoted_unit (drop c.in_ok-next.next us)) (flat_map quoted_unit us) c.put_some-put.new.out.items (state_of g.W.Sink c.args.out.now) (state_of g.W.Sink l.out) l.invariant.split l.invariant.goes (rw c.in_ok-next.ensures.value at c.put_some-put.ensures.octets) (state_of g.W.Sink c.settle.new.self) _ c.in_err-settle.ensures.goes) }
 
 pub loop-place-preserved : goal.loop-place-preserved
 loop-place-preserved g c =
@@ -26,12 +26,12 @@ loop-place-preserved g c =
     let l = c.loop-place in
     let p = state_of g.W.Sink c.args.out.now in
     let q = state_of g.W.Sink l.out in
-    let puts = c.in-Ok.ensures.octets in
+    let puts = (rw c.in_ok-next.ensures.value at c.put_some-put.ensures.octets) in
     record {
-      within = c.in-Ok.ensures.within;
+      within = rw c.in_ok-next.ensures.value at c.put_some-put.ensures.within;
       done = l.invariant.done ++ puts.piece;
-      split = piece-split l.invariant.done (flat_map quoted_unit (drop l.place us)) (flat_map quoted_unit (drop c.in-Ok.next us)) (flat_map quoted_unit us) c.put_some.new.out.items p q l.invariant.split l.invariant.goes puts;
-      goes = piece-settled l.invariant.done (flat_map quoted_unit (drop l.place us)) (flat_map quoted_unit (drop c.in-Ok.next us)) (flat_map quoted_unit us) c.put_some.new.out.items p q l.invariant.split l.invariant.goes puts (state_of g.W.Sink c.settle.new.self) _ c.in_ok-settle.ensures.goes;
+      split = piece-split l.invariant.done (flat_map quoted_unit (drop l.place us)) (flat_map quoted_unit (drop c.in_ok-next.next us)) (flat_map quoted_unit us) c.put_some-put.new.out.items p q l.invariant.split l.invariant.goes puts;
+      goes = piece-settled l.invariant.done (flat_map quoted_unit (drop l.place us)) (flat_map quoted_unit (drop c.in_ok-next.next us)) (flat_map quoted_unit us) c.put_some-put.new.out.items p q l.invariant.split l.invariant.goes puts (state_of g.W.Sink c.settle.new.self) _ c.in_ok-settle.ensures.goes;
     }
 
 pub returns : goal.returns

@@ -48,25 +48,27 @@ returns-in_err-make_room-clause-pieces g c =
     let stop = short_stop [] 0 c.from.result q r r _ _ (omega arith) refl c.in_err-make_room.ensures.pieces in
     rw (e.1, e.2) (short_then [] 0 (state_of g.W.Sink c.args.out.now) q r tt _ l.invariant.short stop)
 
-pub returns-in_default-clause-goes : goal.returns-in_default-clause-goes
-returns-in_default-clause-goes g c =
+pub returns-in_err-grown-clause-goes : goal.returns-in_err-grown-clause-goes
+returns-in_err-grown-clause-goes g c =
+    let e = err_from_is_err_and c.from_residual-in_err-grown.result c.from_residual-in_err-grown.ensures.1 in
     let l = c.loop-place in
     let rest = references c.args.width (drop l.place-index c.args.places.now) in
     let p = state_of g.W.Sink c.args.out.now in
     let q = state_of g.W.Sink l.out in
     let r = state_of g.W.Sink c.make_room.new.self in
-    let end : State = record r { waiting = c.put_number.new.out.items } in
+    let end : State = record r { waiting = c.put_number-put.new.out.items } in
     let kept = Goes_last l.invariant.done p q r tt _ l.invariant.goes c.in_ok-make_room.ensures.goes in
-    Goes_rest l.invariant.done rest (references c.args.width c.args.places.now) p r end _ _ l.invariant.split kept (Goes_out rest c.put_number.new.out.items r)
+    rw (e.1, e.2, c.in_err-grown.ensures.refused.1) (Goes_rest l.invariant.done rest (references c.args.width c.args.places.now) p r end _ _ l.invariant.split kept (Goes_out rest c.put_number-put.new.out.items r))
 
-pub returns-in_default-clause-pieces : goal.returns-in_default-clause-pieces
-returns-in_default-clause-pieces g c =
+pub returns-in_err-grown-clause-pieces : goal.returns-in_err-grown-clause-pieces
+returns-in_err-grown-clause-pieces g c =
+    let e = err_from_is_err_and c.from_residual-in_err-grown.result c.from_residual-in_err-grown.ensures.1 in
     let l = c.loop-place in
     let q = state_of g.W.Sink l.out in
     let r = state_of g.W.Sink c.make_room.new.self in
-    let end : State = record r { waiting = c.put_number.new.out.items } in
+    let end : State = record r { waiting = c.put_number-put.new.out.items } in
     let stop = short_stop [] 0 c.from.result q r end _ _ (omega arith) refl c.in_ok-make_room.ensures.pieces in
-    short_then [] 0 (state_of g.W.Sink c.args.out.now) q end tt _ l.invariant.short stop
+    rw (e.1, e.2) (short_then [] 0 (state_of g.W.Sink c.args.out.now) q end tt _ l.invariant.short stop)
 
 pub loop-place-preserved : goal.loop-place-preserved
 loop-place-preserved g c =
@@ -79,16 +81,17 @@ loop-place-preserved g c =
     let p = state_of g.W.Sink c.args.out.now in
     let q = state_of g.W.Sink l.out in
     let r = state_of g.W.Sink c.make_room.new.self in
-    let items = c.put_number.new.out.items in
+    let items = c.put_number-put.new.out.items in
     let next : State = record r { waiting = items } in
     let entry = big_bytes width place in
     let kept = Goes_last l.invariant.done p q r tt _ l.invariant.goes c.in_ok-make_room.ensures.goes in
     let digits = length-bytes_high_first width place in
+    let put = rw c.in_ok-grown.ensures.value at c.put_number-put.ensures.ok in
     record {
       done = l.invariant.done ++ entry;
       split = entries-next width places i place l.invariant.done (references width places) is c.loop-place-test.true l.invariant.split;
-      goes = Goes_then l.invariant.done entry p r next _ _ kept (Goes_put entry items r c.in-Ok.ensures.ok);
-      short = short_then [] 0 p q next tt _ l.invariant.short (short_put c.from.result entry items q r _ (omega arith) (omega (arith, digits)) c.in-Ok.ensures.ok c.in_ok-make_room.ensures.pieces);
+      goes = Goes_then l.invariant.done entry p r next _ _ kept (Goes_put entry items r put);
+      short = short_then [] 0 p q next tt _ l.invariant.short (short_put c.from.result entry items q r _ (omega arith) (omega (arith, digits)) put c.in_ok-make_room.ensures.pieces);
     }
 
 pub returns-clause-goes : goal.returns-clause-goes

@@ -3,7 +3,7 @@ use Rattle.std.proofs.lemmas.Result.{err_from_is_err_and}
 use Rattle.plist_engine.specs.Canonical.{trailer_octets}
 use Rattle.plist_engine.specs.Output.{State, state_of}
 use Rattle.plist_engine.proofs.File.{length-trailer_octets}
-use Rattle.plist_engine.proofs.Going.{Goes_put, Goes_then, Goes_last, short_put, short_stop, short_then}
+use Rattle.plist_engine.proofs.Going.{Goes_out, Goes_put, Goes_then, Goes_last, short_put, short_stop, short_then}
 use Rattle.plist_engine.proofs.file_end.send_trailer.Goals as goal
 
 pub returns-in_err-make_room-clause-pieces : goal.returns-in_err-make_room-clause-pieces
@@ -12,19 +12,29 @@ returns-in_err-make_room-clause-pieces g c =
     let q = state_of g.W.Sink c.make_room.new.self in
     rw (e.1, e.2) (short_stop [] 0 32 (state_of g.W.Sink c.args.out.now) q q _ _ (omega arith) refl c.in_err-make_room.ensures.pieces)
 
-pub returns-in_default-clause-pieces : goal.returns-in_default-clause-pieces
-returns-in_default-clause-pieces g c =
+pub returns-in_err-grown-clause-goes : goal.returns-in_err-grown-clause-goes
+returns-in_err-grown-clause-goes g c =
+    let e = err_from_is_err_and c.from_residual-in_err-grown.result c.from_residual-in_err-grown.ensures.1 in
+    let octets = trailer_octets c.args.count c.args.place in
     let q = state_of g.W.Sink c.make_room.new.self in
-    short_stop [] 0 32 (state_of g.W.Sink c.args.out.now) q (record q { waiting = c.put_trailer.new.out.items }) _ _ (omega arith) refl c.in_ok-make_room.ensures.pieces
+    let items = c.put_trailer-put.new.out.items in
+    rw (e.1, e.2, c.in_err-grown.ensures.refused.1) (Goes_then [] octets (state_of g.W.Sink c.args.out.now) q (record q { waiting = items }) _ _ c.in_ok-make_room.ensures.goes (Goes_out {T = Unit {0}} octets items q))
+
+pub returns-in_err-grown-clause-pieces : goal.returns-in_err-grown-clause-pieces
+returns-in_err-grown-clause-pieces g c =
+    let e = err_from_is_err_and c.from_residual-in_err-grown.result c.from_residual-in_err-grown.ensures.1 in
+    let q = state_of g.W.Sink c.make_room.new.self in
+    rw (e.1, e.2) (short_stop [] 0 32 (state_of g.W.Sink c.args.out.now) q (record q { waiting = c.put_trailer-put.new.out.items }) _ _ (omega arith) refl c.in_ok-make_room.ensures.pieces)
 
 pub returns-clause-goes : goal.returns-clause-goes
 returns-clause-goes g c =
     let octets = trailer_octets c.args.count c.args.place in
     let p = state_of g.W.Sink c.args.out.now in
     let q = state_of g.W.Sink c.make_room.new.self in
-    let put : State = record q { waiting = c.put_trailer.new.out.items } in
+    let put : State = record q { waiting = c.put_trailer-put.new.out.items } in
     let r = state_of g.W.Sink c.flush.new.self in
-    let last = Goes_last octets q put r tt c.flush.result (Goes_put octets c.put_trailer.new.out.items q c.in-Ok.ensures) c.flush.ensures.goes in
+    let put_there = rw c.in_ok-grown.ensures.value at c.put_trailer-put.ensures in
+    let last = Goes_last octets q put r tt c.flush.result (Goes_put octets c.put_trailer-put.new.out.items q put_there) c.flush.ensures.goes in
     Goes_then [] octets p q r _ c.flush.result c.in_ok-make_room.ensures.goes last
 
 pub returns-clause-pieces : goal.returns-clause-pieces
@@ -32,7 +42,8 @@ returns-clause-pieces g c =
     let octets = trailer_octets c.args.count c.args.place in
     let p = state_of g.W.Sink c.args.out.now in
     let q = state_of g.W.Sink c.make_room.new.self in
-    let put : State = record q { waiting = c.put_trailer.new.out.items } in
+    let put : State = record q { waiting = c.put_trailer-put.new.out.items } in
     let digits = length-trailer_octets c.args.count c.args.place in
-    let kept = short_put 32 octets c.put_trailer.new.out.items p q _ (omega arith) (omega (arith, digits)) c.in-Ok.ensures c.in_ok-make_room.ensures.pieces in
+    let put_there = rw c.in_ok-grown.ensures.value at c.put_trailer-put.ensures in
+    let kept = short_put 32 octets c.put_trailer-put.new.out.items p q _ (omega arith) (omega (arith, digits)) put_there c.in_ok-make_room.ensures.pieces in
     short_then [] 0 p put (state_of g.W.Sink c.flush.new.self) tt c.flush.result kept c.flush.ensures.pieces

@@ -8,7 +8,7 @@ use Rattle.plist_engine.specs.Pieces.{CanSpellAll, octets_in_object}
 use Rattle.plist_engine.specs.Renumbering.{AreSound, helds_of, octets_for, octets_planned}
 use Rattle.plist_engine.specs.Sending.{Allows}
 use Rattle.plist_engine.specs.Output.{state_of}
-use Rattle.plist_engine.proofs.Going.{Goes_put, Goes_then, Goes_rest, Goes_stop, Goes_same, room_then}
+use Rattle.plist_engine.proofs.Going.{Goes_out, Goes_put, Goes_then, Goes_rest, Goes_stop, Goes_same, room_then}
 use Rattle.plist_engine.proofs.ObjectSteps.{sound-next, Step, step, measured-next, none-left, split-next, split-end, placed-next, placed-end}
 use Rattle.plist_engine.proofs.sending.send_objects.Given as given
 use Rattle.plist_engine.proofs.sending.send_objects.Goals as goal
@@ -64,7 +64,7 @@ send_object-requires-clause-room g c =
 
 pub returns-in_err-send_object-clause-goes : goal.returns-in_err-send_object-clause-goes
 returns-in_err-send_object-clause-goes g c =
-    let p = err_from_is_err_and c.from_residual.result c.from_residual.ensures.1 in
+    let p = err_from_is_err_and c.from_residual-in_err-send_object.result c.from_residual-in_err-send_object.ensures.1 in
     let l = c.loop-original in
     let one = next g (goal.at.returns-in_err-send_object-clause-goes g c).After-renumbered_object in
     let octets = octets_in_object c.args.width c.renumbered_object.result.0 in
@@ -131,7 +131,7 @@ returns-clause-places g c =
 
 pub returns-in_err-send_object-clause-pieces : goal.returns-in_err-send_object-clause-pieces
 returns-in_err-send_object-clause-pieces g c = λ most allows fits before.
-    let p = err_from_is_err_and c.from_residual.result c.from_residual.ensures.1 in
+    let p = err_from_is_err_and c.from_residual-in_err-send_object.result c.from_residual-in_err-send_object.ensures.1 in
     let l = c.loop-original in
     let one = next g (goal.at.returns-in_err-send_object-clause-pieces g c).After-renumbered_object in
     let here = rw one.split at (l.invariant.allowed most allows) in
@@ -144,8 +144,16 @@ returns-clause-pieces g c = λ most allows fits before.
     let now = c.loop-original.invariant.short most allows before in
     record { waits = omega (arith, now.waits); pieces = now.pieces }
 
-pub returns-in_default-clause-pieces : goal.returns-in_default-clause-pieces
-returns-in_default-clause-pieces g c = λ most allows fits before. record { waits = tt; pieces = before.pieces }
+pub returns-in_err-places-clause-goes : goal.returns-in_err-places-clause-goes
+returns-in_err-places-clause-goes g c =
+    let e = err_from_is_err_and c.from_residual.result c.from_residual.ensures.1 in
+    let p = state_of g.W.Sink c.args.out.now in
+    rw (e.1, e.2, c.in_err-places.ensures.refused.1) (Goes_out (concat (octets_planned c.args.width (octets_of c.args.file.now) c.args.objects.now)) p.waiting p)
+
+pub returns-in_err-places-clause-pieces : goal.returns-in_err-places-clause-pieces
+returns-in_err-places-clause-pieces g c = λ most allows fits before.
+    let e = err_from_is_err_and c.from_residual.result c.from_residual.ensures.1 in
+    rw (e.1, e.2) (record { waits = tt; pieces = before.pieces })
 
 pub loop-original-init : goal.loop-original-init
 loop-original-init g c =
@@ -154,12 +162,15 @@ loop-original-init g c =
     let is = c.as_slice-numbers.ensures.value in
     let left = ap (octets_for c.args.width f start) is in
     let p = state_of g.W.Sink c.args.out.now in
+    let none = rw c.in_ok-places.ensures.value at c.with_capacity.ensures.items in
+    let len = rw c.in_ok-places.ensures.value at c.with_capacity.ensures.len in
+    let capacity = rw c.in_ok-places.ensures.value at c.with_capacity.ensures.capacity in
     record {
       sound = subst (λ (rs : List ℕ). AreSound f start rs) (sym is) c.requires.sound;
       spellable = subst (λ (rs : List ℕ). CanSpellAll c.args.width (helds_of f start rs)) (sym is) c.requires.spellable;
       measured = ap (λ os. 8 + length (concat os)) left;
-      places = ap (λ ps. ps ++ starts 8 (octets_for c.args.width f start c.as_slice-numbers.result.now)) c.in-Ok.ensures.items ∙ ap (starts 8) left;
-      room = first_of (search rules, omega (arith, c.in-Ok.ensures.len, c.in-Ok.ensures.capacity));
+      places = ap (λ ps. ps ++ starts 8 (octets_for c.args.width f start c.as_slice-numbers.result.now)) none ∙ ap (starts 8) left;
+      room = first_of (search rules, omega (arith, len, capacity));
       done = [];
       split = ap concat left;
       goes = Goes_put [] p.waiting p (sym (append-nil p.waiting));

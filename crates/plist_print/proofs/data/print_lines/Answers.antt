@@ -8,24 +8,25 @@ use Rattle.plist_print.specs.Printed.{indent, octet_lines}
 use Rattle.plist_engine.proofs.Steps.{piece-split, piece-settled, piece-stops, no_piece}
 use Rattle.plist_print.proofs.data.print_lines.Goals as goal
 
-pub returns-in_default : goal.returns-in_default
-returns-in_default g c =
-    let all = octet_lines (indent c.args.level) c.args.octets.now in
-    let l = c.loop-left in
-    let p = state_of g.W.Sink c.args.out.now in
-    let q = state_of g.W.Sink l.out in
-    let items = c.put_front.new.out.items in
-    record { goes = no_piece l.invariant.done (octet_lines (indent c.args.level) l.left.now) all items p q l.invariant.split l.invariant.goes }
-
-pub returns-in_err-settle : goal.returns-in_err-settle
-returns-in_err-settle g c =
+pub returns-in_err-behind : goal.returns-in_err-behind
+returns-in_err-behind g c =
     let e = err_from_is_err_and c.from_residual.result c.from_residual.ensures.1 in
     let all = octet_lines (indent c.args.level) c.args.octets.now in
     let l = c.loop-left in
     let p = state_of g.W.Sink c.args.out.now in
     let q = state_of g.W.Sink l.out in
+    let items = c.put_front-put.new.out.items in
+    rw (e.1, e.2, c.in_err-behind.ensures.refused.1) (record { goes = no_piece l.invariant.done (octet_lines (indent c.args.level) l.left.now) all items p q l.invariant.split l.invariant.goes })
+
+pub returns-in_err-settle : goal.returns-in_err-settle
+returns-in_err-settle g c =
+    let e = err_from_is_err_and c.from_residual-in_err-settle.result c.from_residual-in_err-settle.ensures.1 in
+    let all = octet_lines (indent c.args.level) c.args.octets.now in
+    let l = c.loop-left in
+    let p = state_of g.W.Sink c.args.out.now in
+    let q = state_of g.W.Sink l.out in
     let r = state_of g.W.Sink c.settle.new.self in
-    rw (e.1, e.2) (record { goes = piece-stops l.invariant.done (octet_lines (indent c.args.level) l.left.now) (octet_lines (indent c.args.level) c.in-Ok.behind.now) all c.put_front.new.out.items p q l.invariant.split l.invariant.goes c.in-Ok.ensures.octets r _ c.in_err-settle.ensures.goes })
+    rw (e.1, e.2) (record { goes = piece-stops l.invariant.done (octet_lines (indent c.args.level) l.left.now) (octet_lines (indent c.args.level) c.in_ok-behind.behind.now) all c.put_front-put.new.out.items p q l.invariant.split l.invariant.goes (rw c.in_ok-behind.ensures.value at c.put_front-put.ensures.octets) r _ c.in_err-settle.ensures.goes })
 
 pub loop-left-preserved : goal.loop-left-preserved
 loop-left-preserved g c =
@@ -33,11 +34,11 @@ loop-left-preserved g c =
     let l = c.loop-left in
     let p = state_of g.W.Sink c.args.out.now in
     let q = state_of g.W.Sink l.out in
-    let puts = c.in-Ok.ensures.octets in
+    let puts = (rw c.in_ok-behind.ensures.value at c.put_front-put.ensures.octets) in
     record {
       done = l.invariant.done ++ puts.piece;
-      split = piece-split l.invariant.done (octet_lines (indent c.args.level) l.left.now) (octet_lines (indent c.args.level) c.in-Ok.behind.now) all c.put_front.new.out.items p q l.invariant.split l.invariant.goes puts;
-      goes = piece-settled l.invariant.done (octet_lines (indent c.args.level) l.left.now) (octet_lines (indent c.args.level) c.in-Ok.behind.now) all c.put_front.new.out.items p q l.invariant.split l.invariant.goes puts (state_of g.W.Sink c.settle.new.self) _ c.in_ok-settle.ensures.goes;
+      split = piece-split l.invariant.done (octet_lines (indent c.args.level) l.left.now) (octet_lines (indent c.args.level) c.in_ok-behind.behind.now) all c.put_front-put.new.out.items p q l.invariant.split l.invariant.goes puts;
+      goes = piece-settled l.invariant.done (octet_lines (indent c.args.level) l.left.now) (octet_lines (indent c.args.level) c.in_ok-behind.behind.now) all c.put_front-put.new.out.items p q l.invariant.split l.invariant.goes puts (state_of g.W.Sink c.settle.new.self) _ c.in_ok-settle.ensures.goes;
     }
 
 empty : (xs : List ℕ) → length xs ≡ 0 → xs ≡ []

@@ -9,24 +9,25 @@ use Rattle.plist_print.specs.Units.{printed_units}
 use Rattle.plist_engine.proofs.Steps.{piece-split, piece-settled, piece-stops, no_piece}
 use Rattle.plist_print.proofs.lines.print_units.Goals as goal
 
-pub returns-in_default : goal.returns-in_default
-returns-in_default g c =
-    let us = units_of c.args.text.now in
-    let l = c.loop-place in
-    let p = state_of g.W.Sink c.args.out.now in
-    let q = state_of g.W.Sink l.out in
-    let items = c.put_some.new.out.items in
-    record { goes = Goes_stop {T = Unit {0}} (printed_units us) (codes "\"") p (record q { waiting = items }) _ (no_piece l.invariant.done (printed_units (drop l.place us)) (printed_units us) items p q l.invariant.split l.invariant.goes) }
-
-pub returns-in_err-settle : goal.returns-in_err-settle
-returns-in_err-settle g c =
+pub returns-in_err-next : goal.returns-in_err-next
+returns-in_err-next g c =
     let e = err_from_is_err_and c.from_residual.result c.from_residual.ensures.1 in
     let us = units_of c.args.text.now in
     let l = c.loop-place in
     let p = state_of g.W.Sink c.args.out.now in
     let q = state_of g.W.Sink l.out in
+    let items = c.put_some-put.new.out.items in
+    rw (e.1, e.2, c.in_err-next.ensures.refused.1) (record { goes = Goes_stop {T = Unit {0}} (printed_units us) (codes "\"") p (record q { waiting = items }) _ (no_piece l.invariant.done (printed_units (drop l.place us)) (printed_units us) items p q l.invariant.split l.invariant.goes) })
+
+pub returns-in_err-settle : goal.returns-in_err-settle
+returns-in_err-settle g c =
+    let e = err_from_is_err_and c.from_residual-in_err-settle.result c.from_residual-in_err-settle.ensures.1 in
+    let us = units_of c.args.text.now in
+    let l = c.loop-place in
+    let p = state_of g.W.Sink c.args.out.now in
+    let q = state_of g.W.Sink l.out in
     let r = state_of g.W.Sink c.settle.new.self in
-    rw (e.1, e.2) (record { goes = Goes_stop {T = Unit {0}} (printed_units us) (codes "\"") p r _ (piece-stops l.invariant.done (printed_units (drop l.place us)) (printed_units (drop c.in-Ok.next us)) (printed_units us) c.put_some.new.out.items p q l.invariant.split l.invariant.goes c.in-Ok.ensures.octets r _ c.in_err-settle.ensures.goes) })
+    rw (e.1, e.2) (record { goes = Goes_stop {T = Unit {0}} (printed_units us) (codes "\"") p r _ (piece-stops l.invariant.done (printed_units (drop l.place us)) (printed_units (drop c.in_ok-next.next us)) (printed_units us) c.put_some-put.new.out.items p q l.invariant.split l.invariant.goes (rw c.in_ok-next.ensures.value at c.put_some-put.ensures.octets) r _ c.in_err-settle.ensures.goes) })
 
 pub loop-place-preserved : goal.loop-place-preserved
 loop-place-preserved g c =
@@ -34,12 +35,12 @@ loop-place-preserved g c =
     let l = c.loop-place in
     let p = state_of g.W.Sink c.args.out.now in
     let q = state_of g.W.Sink l.out in
-    let puts = c.in-Ok.ensures.octets in
+    let puts = (rw c.in_ok-next.ensures.value at c.put_some-put.ensures.octets) in
     record {
-      within = c.in-Ok.ensures.within;
+      within = rw c.in_ok-next.ensures.value at c.put_some-put.ensures.within;
       done = l.invariant.done ++ puts.piece;
-      split = piece-split l.invariant.done (printed_units (drop l.place us)) (printed_units (drop c.in-Ok.next us)) (printed_units us) c.put_some.new.out.items p q l.invariant.split l.invariant.goes puts;
-      goes = piece-settled l.invariant.done (printed_units (drop l.place us)) (printed_units (drop c.in-Ok.next us)) (printed_units us) c.put_some.new.out.items p q l.invariant.split l.invariant.goes puts (state_of g.W.Sink c.settle.new.self) _ c.in_ok-settle.ensures.goes;
+      split = piece-split l.invariant.done (printed_units (drop l.place us)) (printed_units (drop c.in_ok-next.next us)) (printed_units us) c.put_some-put.new.out.items p q l.invariant.split l.invariant.goes puts;
+      goes = piece-settled l.invariant.done (printed_units (drop l.place us)) (printed_units (drop c.in_ok-next.next us)) (printed_units us) c.put_some-put.new.out.items p q l.invariant.split l.invariant.goes puts (state_of g.W.Sink c.settle.new.self) _ c.in_ok-settle.ensures.goes;
     }
 
 pub returns : goal.returns

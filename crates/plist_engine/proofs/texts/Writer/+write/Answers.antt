@@ -1,6 +1,7 @@
 use Rattle.std.proofs.Common.{◌≡◌, ℕ, ◌+◌, ◌-◌, ◌/◌, ◌<◌, ◌≤◌, [], length, rules, refl, sym, ap, subst, ◌∙◌, arith}
 use Rattle.std.proofs.lemmas.Bool.Decides.{nat_tests}
 use Rattle.std.proofs.lemmas.List.{append-nil}
+use Rattle.std.proofs.lemmas.Result.{err_from_is_err_and}
 use Rattle.plist_value.specs.Plist.{list, table}
 use Rattle.plist_value.specs.Scalars.{content_of}
 use Rattle.plist_value.specs.Texts.{units_of}
@@ -149,10 +150,11 @@ table-returns-then-is_empty-clause-goes g t c = λ rows ps spell.
     let none : length keys ≡ 0 = first_of (search rules, grind (arith, nat_tests)) in
     Goes_same (parts.mark_text EmptyTable) (text_in parts c.args.level (table ps)) _ _ c.write_mark.result (table_empty parts c.args.level (octets_of c.args.self.now.file) keys (numbers_of c.args.values.now) rows ps c.requires.spell.as_many spell none) c.write_mark.ensures.goes
 
-pub table-returns-in_default-clause-goes : goal.table-returns-in_default-clause-goes
-table-returns-in_default-clause-goes g t c = λ rows ps spell.
+pub table-returns-in_err-references-clause-goes : goal.table-returns-in_err-references-clause-goes
+table-returns-in_err-references-clause-goes g t c = λ rows ps spell.
     let p = state_of g.W.Sink c.args.out.now in
-    Goes_out (text_in g.N.Notation.parts c.args.level (table ps)) p.waiting p
+    let e = err_from_is_err_and c.from_residual.result c.from_residual.ensures.1 in
+    rw (e.1, e.2, c.in_err-references.ensures.refused.1) (Goes_out (text_in g.N.Notation.parts c.args.level (table ps)) p.waiting p)
 
 pub table-returns-in_err-write_mark-clause-goes : goal.table-returns-in_err-write_mark-clause-goes
 table-returns-in_err-write_mark-clause-goes g t c = λ rows ps spell.
@@ -160,14 +162,14 @@ table-returns-in_err-write_mark-clause-goes g t c = λ rows ps spell.
     let keys = numbers_of c.args.keys.now in
     let some : 0 < length keys = first_of (search rules, grind (arith, nat_tests)) in
     let is = table_filled parts c.args.level (octets_of c.args.self.now.file) keys (numbers_of c.args.values.now) rows ps c.requires.spell.as_many spell some in
-    refused c.from_residual.result c.from_residual.ensures.1 (brackets_unopened (parts.mark_text TableStart) (pairs_in parts (c.args.level + 1) ps) (last_line parts c.args.level TableEnd) (text_in parts c.args.level (table ps)) is _ _ _ c.in_err-write_mark.ensures.goes)
+    refused c.from_residual-in_err-write_mark.result c.from_residual-in_err-write_mark.ensures.1 (brackets_unopened (parts.mark_text TableStart) (pairs_in parts (c.args.level + 1) ps) (last_line parts c.args.level TableEnd) (text_in parts c.args.level (table ps)) is _ _ _ c.in_err-write_mark.ensures.goes)
 
 pub table-pairs-requires : goal.table-pairs-requires
 table-pairs-requires g t c κs within =
     let all = c.requires.spell in
-    let turn = c.deref.ensures.value ∙ c.in-Ok.ensures.turn all.rows all.pairs all.spell in
+    let turn = c.deref.ensures.value ∙ (rw c.in_ok-references.ensures.value at c.in_turn.ensures.turn) all.rows all.pairs all.spell in
     let inside = pairs_within (octets_of c.args.self.now.file) (numbers_of c.args.keys.now) (numbers_of c.args.values.now) _ (MAX_DEPTH - (c.args.level + 1)) all turn in
-    (omega (arith, c.decreases, c.requires.below), (within.0, (within.1, (inside, c.in-Ok.ensures.ready))))
+    (omega (arith, c.decreases, c.requires.below), (within.0, (within.1, (inside, rw c.in_ok-references.ensures.value at c.in_turn.ensures.ready))))
 
 pub table-returns-in_err-pairs-clause-goes : goal.table-returns-in_err-pairs-clause-goes
 table-returns-in_err-pairs-clause-goes g t c = λ rows ps spell.
@@ -175,7 +177,7 @@ table-returns-in_err-pairs-clause-goes g t c = λ rows ps spell.
     let keys = numbers_of c.args.keys.now in
     let some : 0 < length keys = first_of (search rules, grind (arith, nat_tests)) in
     let is = table_filled parts c.args.level (octets_of c.args.self.now.file) keys (numbers_of c.args.values.now) rows ps c.requires.spell.as_many spell some in
-    let turn = c.deref.ensures.value ∙ c.in-Ok.ensures.turn rows ps spell in
+    let turn = c.deref.ensures.value ∙ (rw c.in_ok-references.ensures.value at c.in_turn.ensures.turn) rows ps spell in
     refused c.from_residual-in_err-pairs.result c.from_residual-in_err-pairs.ensures.1 (brackets_unfilled (parts.mark_text TableStart) (pairs_in parts (c.args.level + 1) ps) (last_line parts c.args.level TableEnd) (text_in parts c.args.level (table ps)) is _ _ _ _ _ c.in_ok-write_mark.ensures.goes (c.in_err-pairs.ensures.goes rows ps turn spell.valid spell.spell))
 
 pub table-returns-clause-goes : goal.table-returns-clause-goes
@@ -184,7 +186,7 @@ table-returns-clause-goes g t c = λ rows ps spell.
     let keys = numbers_of c.args.keys.now in
     let some : 0 < length keys = first_of (search rules, grind (arith, nat_tests)) in
     let is = table_filled parts c.args.level (octets_of c.args.self.now.file) keys (numbers_of c.args.values.now) rows ps c.requires.spell.as_many spell some in
-    let turn = c.deref.ensures.value ∙ c.in-Ok.ensures.turn rows ps spell in
+    let turn = c.deref.ensures.value ∙ (rw c.in_ok-references.ensures.value at c.in_turn.ensures.turn) rows ps spell in
     brackets_closed (parts.mark_text TableStart) (pairs_in parts (c.args.level + 1) ps) (last_line parts c.args.level TableEnd) (text_in parts c.args.level (table ps)) is _ _ _ _ _ _ c.end_lines.result c.in_ok-write_mark.ensures.goes (c.in_ok-pairs.ensures.goes rows ps turn spell.valid spell.spell) c.end_lines.ensures.goes
 
 pub pairs-loop-i-init : goal.pairs-loop-i-init
