@@ -27,6 +27,12 @@ pub record AreAdded (f : List ℕ) (i : ℕ) (builder : RepeatFilterBuilder) : T
   pub kept : (k : ℕ) (s : Scalar) → k < i → HoldsIt f k s → slice_index builder.bits.items k ≡ bit_of builder.mask builder.seed s
   pub are_scalars : AreScalars f i builder.bits.items
 
+-- no object was added
+pub record AddsNone (old new : RepeatFilterBuilder) : Type 0 where
+  pub bits : new.bits.items ≡ old.bits.items
+  pub mask : new.mask ≡ old.mask
+  pub seed : new.seed ≡ old.seed
+
 -- each bit that occurs more than once among the first n is set
 abbrev pub AreSeenAgain : ℕ → List ℕ → Bits → Type 0
 AreSeenAgain n bits again = (j k : ℕ) → j < k → k < n → slice_index bits j ≡ slice_index bits k → HasBit again (slice_index bits k)

@@ -2,7 +2,7 @@
 use Rattle.std.specs.Prelude.{◌≡◌, ℕ, ◌<◌, nat_le, Bool, true, false, if◌then◌else◌, List, [], ◌∷◌, length, Option, Some, None}
 use Rattle.std.specs.Option.{option_or}
 use Rattle.std.specs.Ordering.{on}
-use Rattle.indexmap.specs.IndexMap.{get}
+use Rattle.indexmap.specs.IndexMap.{get, IsUnchanged}
 use Rattle.plist_value.specs.Plist.{Scalar, bytes}
 use Rattle.plist_value.specs.Equality.{scalar_eq}
 use Rattle.plist_value.specs.Scalars.{content_of}
@@ -54,6 +54,11 @@ pub record IsUnlisted {S H : Type 0} (known : Scalars S H) (r : ScalarRef) : Typ
   pub numbered : AreNumbered known
   pub missed : number_listed known.listed.items (content_of r) ≡ None
   pub refused : HasRoom known → IsShort r
+
+-- each scalar has the number that it had, or none
+pub record KeepsScalars {S H : Type 0} (old new : Scalars S H) : Type 0 where
+  pub listed : new.listed.items ≡ old.listed.items
+  pub hashed : IsUnchanged old.hashed new.hashed
 
 -- The scalar has the number that it had, or the next one if it had none. All others are unchanged.
 pub record EntersScalar {S H : Type 0} (shown : ScalarRef) (next : ℕ) (old new : Scalars S H) (had : Option ℕ) : Type 0 where

@@ -5,11 +5,12 @@
 //! First the bits of all objects are collected. A loop that does nothing else then counts them, in
 //! which the cache misses overlap.
 ghost use Rattle.std.specs.Prelude.{◌≡◌, ◌<◌, ◌↔◌, ℕ, List, suc, [], IsTrue};
-ghost use Rattle.std.specs.Prelude.{IfOk, IfSome, OnOk, length};
+ghost use Rattle.std.specs.Prelude.{IfOk, IfSome, OnErr, OnOk, length};
 ghost use Rattle.plist_object.specs.Layout.{trailer_of};
 ghost use Rattle.plist_object.specs.Places.{Holds};
 ghost use Rattle.plist_object.specs.Views.{held_of, octets_of};
-ghost use Rattle.plist_engine.specs.RepeatFilter.{AreAdded, AreSeenAgain, HasAdded};
+ghost use Rattle.plist_engine.specs.RepeatFilter.{AddsNone, AreAdded};
+ghost use Rattle.plist_engine.specs.RepeatFilter.{AreSeenAgain, HasAdded};
 ghost use Rattle.plist_engine.specs.RepeatFilter.{IsUnlike, MayRepeat};
 
 use crate::bits::{Bits, bit_of, mask_for};
@@ -55,11 +56,12 @@ impl RepeatFilterBuilder {
     ///
     /// # Errors
     ///
-    /// Fails if out of memory.
+    /// Fails if out of memory. The object is not added then, and can be added again.
     #[inline(always)]
     pub fn add(&mut self, object: &Object) -> Result<(), AllocError>
-        ensures { OnOk result ((f : List ℕ) (i : ℕ) → Holds f i (held_of object.now)
+        ensures added { OnOk result ((f : List ℕ) (i : ℕ) → Holds f i (held_of object.now)
             → AreAdded f i self.old → AreAdded f (suc i) self.new) }
+        ensures refused { OnErr result (AddsNone self.old self.new) }
     {
         let bit = match object {
             Object::Scalar(scalar) => bit_of(self.mask, self.seed, scalar),

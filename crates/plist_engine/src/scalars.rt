@@ -1,8 +1,8 @@
 //! A map from scalars to object numbers.
-ghost use Rattle.std.specs.Prelude.{◌≡◌, IfOk};
+ghost use Rattle.std.specs.Prelude.{◌≡◌, IfOk, OnErr};
 ghost use Rattle.plist_value.specs.Scalars.{content_of};
 ghost use Rattle.plist_engine.specs.Scalars.{AreNew, AreNumbered, EntersScalar, IsUnlisted};
-ghost use Rattle.plist_engine.specs.Scalars.{is_long, number_listed};
+ghost use Rattle.plist_engine.specs.Scalars.{KeepsScalars, is_long, number_listed};
 
 use indexmap::IndexMap;
 use plist_value::ScalarRef;
@@ -58,10 +58,11 @@ impl<'a, S: BuildHasher> Scalars<'a, S> {
     ///
     /// # Errors
     ///
-    /// Fails if out of memory. The numbers in the map are unspecified then.
+    /// Fails if out of memory. All numbers are then as they were.
     pub fn enter(&mut self, scalar: ScalarRef<'a>, next: u32) -> Result<Option<u32>, AllocError>
-        ensures { IfOk result (λ had. AreNumbered self.old
+        ensures entered { IfOk result (λ had. AreNumbered self.old
             → EntersScalar scalar.entry next self.old self.new had) }
+        ensures refused { OnErr result (KeepsScalars self.old self.new) }
     {
         if !is_long_data(scalar) {
             return self.enter_hashed(scalar, next);
@@ -93,8 +94,9 @@ impl<'a, S: BuildHasher> Scalars<'a, S> {
 
     // Like `enter`, for a scalar that is not in the list and will not be added to it.
     fn enter_hashed(&mut self, scalar: ScalarRef<'a>, next: u32) -> Result<Option<u32>, AllocError>
-        ensures { IfOk result (λ had. IsUnlisted self.old scalar.entry
+        ensures entered { IfOk result (λ had. IsUnlisted self.old scalar.entry
             → EntersScalar scalar.entry next self.old self.new had) }
+        ensures refused { OnErr result (KeepsScalars self.old self.new) }
     {
         if self.hashed.len() == MANY {
             self.hashed.reserve(likely(next, self.most))?;

@@ -27,7 +27,7 @@ returns-then-is_some-clause-err g c =
     let f = octets_of c.args.file.now in
     let s = c.in-Some.scalar in
     let old = c.args.seen.now in
-    let enters = c.in_ok-earlier.ensures c.requires.seen.numbered in
+    let enters = c.in_ok-earlier.ensures.entered c.requires.seen.numbered in
     let known = sym (seen-had s _ old c.enter.new.self c.in_ok-earlier.earlier enters) ∙ sym c.is_some.ensures ∙ c.if-is_some.true in
     rw c.at.ensures (breaks_c6 c.args.i c.requires.listed (not-IsNoRepeat c.args.filter.now f c.args.i s old c.in-Some.ensures.some c.requires.seen known))
 
@@ -35,11 +35,11 @@ pub returns-clause-ok : goal.returns-clause-ok
 returns-clause-ok g c =
     let s = c.in-Some.scalar in
     let old = c.args.seen.now in
-    let enters = c.in_ok-earlier.ensures c.requires.seen.numbered in
+    let enters = c.in_ok-earlier.ensures.entered c.requires.seen.numbered in
     let unknown = sym (seen-had s _ old c.enter.new.self c.in_ok-earlier.earlier enters) ∙ sym c.is_some.ensures ∙ c.if-is_some.false in
     IsNoRepeat-new (octets_of c.args.file.now) _ c.args.filter.now c.requires.added c.args.i s old c.requires.among c.in-Some.ensures.some c.requires.seen unknown
 
 pub returns-clause-seen : goal.returns-clause-seen
 returns-clause-seen g c =
-    let enters = c.in_ok-earlier.ensures c.requires.seen.numbered in
+    let enters = c.in_ok-earlier.ensures.entered c.requires.seen.numbered in
     HasSeen-scalar c.args.filter.now (octets_of c.args.file.now) c.args.i _ c.in-Some.scalar c.args.seen.now c.enter.new.self c.in_ok-earlier.earlier (c.may_repeat.ensures.0 c.if-not-may_repeat.false) c.in-Some.ensures.some c.requires.seen enters

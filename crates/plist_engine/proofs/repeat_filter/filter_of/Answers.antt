@@ -13,7 +13,7 @@ pub loop-i-preserved : goal.loop-i-preserved
 loop-i-preserved g c =
     let f = octets_of c.args.file.now in
     let holds : Holds f c.loop-i.i (held_of c.in-Ok.object) = record { listed = omega (arith, c.loop-i-test.true, c.count-i-end.ensures); reads = c.in-Ok.ensures.read } in
-    subst (λ (n : ℕ). AreAdded f n c.add.new.self) (sym (add-one c.loop-i.i)) (c.in_ok-add.ensures f c.loop-i.i holds c.loop-i.invariant)
+    subst (λ (n : ℕ). AreAdded f n c.add.new.self) (sym (add-one c.loop-i.i)) (c.in_ok-add.ensures.added f c.loop-i.i holds c.loop-i.invariant)
 
 pub returns : goal.returns
 returns g c =

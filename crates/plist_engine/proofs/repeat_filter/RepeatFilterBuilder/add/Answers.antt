@@ -6,8 +6,8 @@ use Rattle.plist_engine.proofs.Added.{added-none, added-scalar, not-held}
 use Rattle.plist_engine.proofs.repeat_filter.RepeatFilterBuilder.add.Goals as goal
 use Rattle.plist_engine.proofs.repeat_filter.RepeatFilterBuilder.add.Goals.{in-Scalar, in_default}
 
-pub returns : goal.returns
-returns c = λ f i holds added.
+pub returns-clause-added : goal.returns-clause-added
+returns-clause-added c = λ f i holds added.
     let old = c.args.self.now in
     let new : RepeatFilterBuilder = record { bits = c.push.new.self; mask = old.mask; seed = old.seed } in
     let bit = c.match-object.bit in

@@ -4,8 +4,8 @@ use Rattle.plist_engine.specs.Scalars.{number_listed, IsLong, HasRoom}
 use Rattle.plist_engine.proofs.Storing.{enters-pushed}
 use Rattle.plist_engine.proofs.scalars.Scalars.enter.Goals as goal
 
-pub returns : goal.returns
-returns g c = λ numbered.
+pub returns-clause-entered : goal.returns-clause-entered
+returns-clause-entered g c = λ numbered.
     let known = c.args.self.now in
     let long : IsLong c.args.scalar = search rules in
     let room : HasRoom known = omega (arith, c.len.ensures) in

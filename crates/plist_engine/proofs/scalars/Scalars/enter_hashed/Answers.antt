@@ -12,8 +12,8 @@ use Rattle.plist_engine.proofs.scalars.Scalars.enter_hashed.Goals as goal
 abbrev number_among : List (ScalarRef × ℕ) → ScalarRef → Option ℕ
 number_among entries r = lookup (on content_of scalar_eq r) entries
 
-pub returns-in-Some : goal.returns-in-Some
-returns-in-Some g c = λ unlisted.
+pub returns-in-Some-clause-entered : goal.returns-in-Some-clause-entered
+returns-in-Some-clause-entered g c = λ unlisted.
     let old = c.args.self.now.hashed.entries in
     let grown = c.if-len-eq-MANY.self.hashed.entries in
     let listed : c.if-len-eq-MANY.self.listed ≡ c.args.self.now.listed = search rules in
@@ -25,8 +25,8 @@ returns-in-Some g c = λ unlisted.
     (sym found ∙ ap (λ es. number_among es c.args.scalar) same)
     (λ r. ap (λ es. number_among es r) (back ∙ same))
 
-pub returns-in_default : goal.returns-in_default
-returns-in_default g c = λ unlisted.
+pub returns-in_default-clause-entered : goal.returns-in_default-clause-entered
+returns-in_default-clause-entered g c = λ unlisted.
     let old = c.args.self.now.hashed.entries in
     let grown = c.if-len-eq-MANY.self.hashed.entries in
     let listed : c.if-len-eq-MANY.self.listed ≡ c.args.self.now.listed = search rules in
