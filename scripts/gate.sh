@@ -142,6 +142,7 @@ if [ -x "$program" ]; then
     step 'stale mutants' 900 bash -c 'needs python3 && scripts/stale_mutants.py'
     step 'names in the pages' 900 bash -c 'needs python3 && python3 scripts/test_docs.py && scripts/docs.py'
     step claims 900 bash -c 'needs python3 && python3 scripts/test_claims.py && scripts/claims.py'
+    step 'out of memory' 900 bash -c 'needs python3 && python3 scripts/test_out_of_memory.py && scripts/out_of_memory.py'
     step 'rows against the second reading' 900 bash -c 'needs python3 && python3 fuzz/rows.py'
     step README 900 scripts/readme
     step tools 900 bash -c 'needs python3 && python3 tools/test_tools.py'

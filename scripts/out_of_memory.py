@@ -1,0 +1,151 @@
+#!/usr/bin/env python3
+"""scripts/out_of_memory.py [TREE]: prints the lines of code that make the refusal 60 by hand, within a second.
+
+No contract can say that memory was refused, so 60 has to come from the library's `AllocError` through `?`. A line makes it
+by hand if its code has one of the names in NAMES: outside of comments, clauses, types, declarations and `use` lines, and
+not only in the pattern of an arm of a `match`. An arm may give 60 if each of its patterns is 60.
+
+Each such line has to be in scripts/out_of_memory.txt, with the reason that it may. A line of that list is
+`FILE | FUNCTION | REASON | CODE`, in which FUNCTION begins with the type or impl that it is in, or is `-` outside of
+functions. Fails if a line is not in the list, or if a line of the list is not in the code. Tests are passed over.
+"""
+from __future__ import annotations
+
+import re
+import sys
+from collections import Counter
+from pathlib import Path
+
+TOP = Path(__file__).resolve().parent.parent
+LIST = "scripts/out_of_memory.txt"
+TESTS = {"plist_tests", "rows", "test_files"}
+NAMES = re.compile(
+    r"\b(?:OutOfMemory|NoMemory|AllocError|AllocFailed|(?<!fn )report_no_memory)\b|(?:=>|\breturn)\s*60\b")
+PATTERN = re.compile(r"\b(?:OutOfMemory|NoMemory|AllocError)\b|^60$")
+STRING = re.compile(r"""b?"(?:[^"\\]|\\.)*"|b?'(?:[^'\\\n]|\\[^\n]+?)'""", re.DOTALL)
+# A string or a character, a comment, a clause up to its brace, or a `use` line.
+TOKEN = re.compile(rf"""
+    (?P<string> {STRING.pattern} )
+  | (?P<comment> //[^\n]* )
+  | (?P<clause> \b(?:requires|ensures)\*?(?:\s+\w+)?\s*(?=\{{) | \bghost\s+\w+\s*[:=]\s*(?=\{{) )
+  | (?P<use> \b(?:pub\s+)?(?:ghost\s+)?use\s[^;]*; )
+""", re.VERBOSE | re.DOTALL)
+TYPE = re.compile(r"(?:(?<=, )|(?<=<)|(?<=: )|(?<=-> ))Alloc(?:Error|Failed<\w+>)(?=\s*(?:[>,;){]|$))")
+SCOPE = re.compile(r"\bfn\s+(?P<fn>\w+)|\bimpl\b(?P<impl>[^;{]*)|\btrait\s+(?P<trait>\w+)"
+                   r"|\b(?:enum|struct)\s+(?P<type>\w+)|(?P<brace>[{};])")
+
+
+def blank(text):
+    """Returns as many lines, with nothing on them."""
+    return "\n" * text.count("\n")
+
+
+def closed(text, start):
+    """Returns the position after the brace that closes the one at `start`."""
+    depth = 0
+    for at in range(start, len(text)):
+        depth += {"{": 1, "}": -1}.get(text[at], 0)
+        if depth == 0:
+            return at + 1
+    return len(text)
+
+
+def code_of(text):
+    """Returns the code without comments, clauses and `use` lines. Line breaks stay."""
+    done, at = [], 0
+    while True:
+        found = TOKEN.search(text, at)
+        if not found:
+            break
+        done.append(text[at:found.start()])
+        at = found.end()
+        if found["string"]:
+            done.append(found[0])
+        elif found["clause"]:
+            at = closed(text, at)
+            done.append(blank(text[found.start():at]))
+        else:
+            done.append(blank(found[0]))
+    return "".join(done) + text[at:]
+
+
+def functions(code):
+    """Returns for each line of the code the function that it begins in, or `None` in a type's declaration."""
+    places, scopes, next_scope, seen = [], [], "", 0
+    marks = list(SCOPE.finditer(STRING.sub(lambda string: re.sub(r"[^\n]", "_", string[0]), code)))
+    for start in (at.start() for at in re.finditer(r"^", code, re.MULTILINE)):
+        while seen < len(marks) and marks[seen].start() < start:
+            mark = marks[seen]
+            seen += 1
+            if mark["fn"] or mark["trait"]:
+                next_scope = mark["fn"] or mark["trait"]
+            elif mark["impl"] is not None:
+                next_scope = re.sub(r"^<[^>]*(?:<[^>]*>[^>]*)*>", "", mark["impl"].strip()).strip()
+            elif mark["type"]:
+                next_scope = None
+            elif mark["brace"] == "{":
+                scopes.append(next_scope)
+                next_scope = ""
+            elif mark["brace"] == "}":
+                scopes.pop()
+            else:
+                next_scope = ""
+        places.append(None if None in scopes else ": ".join(scope for scope in scopes if scope) or "-")
+    return places
+
+
+def is_made(line):
+    """Returns whether the line makes 60, and does not only give on what its pattern has."""
+    if line.count("=>") != 1:
+        return bool(NAMES.search(line))
+    pattern, arrow, given = line.partition("=>")
+    if not NAMES.search(arrow + given):
+        return False
+    alternatives = pattern.partition(" if ")[0].split(" | ")
+    return not all(PATTERN.search(one.strip()) for one in alternatives)
+
+
+def made(tree):
+    """Yields file, function and code of each line that makes 60 by hand, and its number."""
+    for path in sorted(tree.glob("crates/*/src/**/*.rt")):
+        name = path.relative_to(tree)
+        if name.parts[1] in TESTS:
+            continue
+        code = code_of(path.read_text(encoding="utf-8"))
+        for number, (line, function) in enumerate(zip(code.split("\n"), functions(code)), 1):
+            if function is not None and is_made(TYPE.sub("_", line)):
+                yield (str(name), function, line.strip()), number
+
+
+def listed(tree):
+    """Yields file, function and code of each line of the list."""
+    for number, line in enumerate((tree / LIST).read_text(encoding="utf-8").splitlines(), 1):
+        if line.strip() and not line.startswith("#"):
+            fields = [field.strip() for field in line.split(" | ", 3)]
+            if len(fields) != 4 or not all(fields):
+                raise ValueError(f"{LIST}:{number}: not FILE | FUNCTION | REASON | CODE")
+            yield (fields[0], fields[1], fields[3])
+
+
+def differences(tree):
+    """Returns a message for each line of code that is not in the list, and for each that is only in the list."""
+    left, wrong = Counter(listed(tree)), []
+    for place, number in made(tree):
+        if left[place] > 0:
+            left[place] -= 1
+        else:
+            wrong.append(f"{place[0]}:{number}: {place[1]} makes 60 by hand: {place[2]}")
+    return wrong + [f"{LIST}: not in the code: {' | '.join(place)}" for place in left.elements()]
+
+
+def main(tree):
+    wrong = differences(tree)
+    for line in wrong:
+        print(line)
+    if not wrong:
+        print(f"60 is made by hand in {sum(1 for _ in listed(tree))} lines, each in {LIST}")
+    return 1 if wrong else 0
+
+
+if __name__ == "__main__":
+    sys.exit(main(Path(sys.argv[1]) if len(sys.argv) > 1 else TOP))
