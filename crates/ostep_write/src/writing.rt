@@ -16,7 +16,7 @@ use std::alloc::Global;
 
 /// Writes the OpenStep text of the file's value, object by object, and returns its length in bytes.
 /// Neither the value nor the text is in memory: only the key order of each dictionary that is being
-/// written, and one piece.
+/// written, and one piece of less than 8 KiB.
 ///
 /// # Errors
 ///

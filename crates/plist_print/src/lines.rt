@@ -20,7 +20,7 @@ use std::alloc::AllocError;
 pub(crate) const SHORT: usize = 256;
 
 /// Writes a scalar up to the end of its last line. `level` is the level of the line that it begins
-/// on. No piece is much longer than 4,096 bytes.
+/// on. A piece of a printed text has less than 8 KiB.
 ///
 /// # Errors
 ///

@@ -16,7 +16,7 @@ use std::alloc::Global;
 
 /// Writes the printed text of the file's value, object by object, and returns its length in bytes.
 /// Neither the value nor the text is in memory: only the key order of each dictionary that is being
-/// printed, and one piece.
+/// printed, and one piece of less than 8 KiB.
 ///
 /// # Errors
 ///
