@@ -6,8 +6,9 @@ usage: bench/growths.py [PLISTCONV] [--short] [--library libplistconv.a] [--test
 
 A run of the program with a failed allocation must end as with ample memory, or with status 5 and the line of 60, after
 writing as many bytes as that line says. If it fails before the first byte was written, the output file must be
-unchanged. A test must pass, or end with an allocation error or with 60. Tests that make more than 2,000 allocations, or
-take longer than a second, are left out by name.
+unchanged. A test must pass, or return an allocation error or 60. One whose assertion fails was given another answer,
+whatever numbers the assertion prints; bench/growing.c is a test that ends in each of these ways. Tests that make more
+than 2,000 allocations, or take longer than a second, are left out by name.
 
 With --library each allocation of plistconv_check fails in turn, on the canonical file of the array of the strings 000
 to 254. The function builds no value, so it makes fewer than 100 allocations. If the 100th is to fail, the answer is
@@ -78,6 +79,30 @@ OTHER_WORDS = [["--help"], ["convert", "--help"], ["--version"], ["turn", "table
 BUILDS = "growths::a_value_of_many_strings_is_read"
 
 
+# What a test prints if one of its calls returned an allocation error or 60: the error that it returns itself, or the
+# left side of a failed comparison, which is what the call returned. The right side is what was wanted instead, and the
+# text of another assertion has the numbers that it allows.
+REFUSED = re.compile(rb"^(?:[Ee]rror: (?!\").*(?:AllocError|AllocFailed|OutOfMemory|out of memory).*"
+                     rb"|  left: (?:.*\bOutOfMemory\b.*|60|Some\(60\)))$", re.MULTILINE)
+
+# What bench/growing.c prints if its allocation is refused, and whether that says so.
+GROWING = {
+    "error: AllocError": True,
+    "Error: AllocError": True,
+    "error: OutOfMemory { sent: 0 }": True,
+    "assertion `left == right` failed\n  left: Some(OutOfMemory { sent: 0 })\n right: Some(ReadFailed)": True,
+    "assertion `left == right` failed\n  left: Some(60)\n right: Some(14)": True,
+    "assertion `left == right` failed\n  left: Cycle { object: 60 }\n right: OutOfMemory": False,
+    "assertion `left == right` failed\n  left: 15\n right: 60": False,
+    "assertion `left == right` failed\n  left: Some([60, 61])\n right: Some([])": False,
+    "assertion failed: code == 15 || code == 60": False,
+    "assertion failed: answer == Ok(verdict) || answer == Err(CheckFault::OutOfMemory)": False,
+    "assertion failed: neither 15 nor 60": False,
+    "error: Cycle { object: 60 }": False,
+    'error: "60 OutOfMemory, AllocError"': False,
+}
+
+
 class Refusing:
     """Runs programs in which one allocation fails."""
 
@@ -132,11 +157,11 @@ def texts_to_254():
 
 
 def built(source, library, folder):
-    """Builds a C program of this repository with the library, and returns its path."""
+    """Builds a C program of this repository, with the library if there is one, and returns its path."""
     top = os.path.join(refused.HERE, "..")
     program = os.path.join(folder, os.path.basename(source)[:-len(".c")])
     flags = ["-std=c99", "-D_POSIX_C_SOURCE=200809L", f"-I{top}/include"]
-    subprocess.run(["cc", *flags, f"{top}/{source}", library, "-o", program], check=True)
+    subprocess.run(["cc", *flags, f"{top}/{source}", *([library] if library else []), "-o", program], check=True)
     return program
 
 
@@ -191,6 +216,26 @@ def refuse_in_program(program, refusing, names):
     return wrong
 
 
+def ending_of_test(ample, ending, complaint):
+    """Returns how a run of a test ended whose allocation was refused."""
+    if ending[:2] == ample[:2]:
+        return "as with ample memory"
+    return "with an allocation error or 60" if REFUSED.search(ending[1] + complaint) else "otherwise"
+
+
+def refuse_in_growing(refusing):
+    """Returns how many endings of a test are taken for another one."""
+    program, wrong = built("bench/growing.c", None, refusing.folder), 0
+    for said, is_refusal in GROWING.items():
+        ample, *_ = refusing.run([program, said], b"", 0)
+        ending, complaint, _ = refusing.run([program, said], b"", 1)
+        told = ending_of_test(ample, ending, complaint)
+        if told != ("with an allocation error or 60" if is_refusal else "otherwise"):
+            wrong += 1
+            print(f"a test that prints {said!r} ends {told}", flush=True)
+    return wrong
+
+
 def tests_of(crate):
     """Returns the names of a crate's tests, module by module."""
     root = os.path.join(refused.HERE, "..", "crates", crate, "src")
@@ -222,18 +267,19 @@ def refuse_in_tests(crate, refusing, only=None):
         if name == BUILDS and (allocations <= 255 or refusing.run([program, name], b"", 100)[0][:2] == ample[:2]):
             wrong += 1
             print(f"{crate} {name} makes {allocations} allocations, or does without the 100th", flush=True)
-        number = 0
+        number, most = 0, allocations
         while number < allocations:
             number += 1
             ending, complaint, allocations = refusing.run([program, name], b"", number)
-            said = ending[1] + complaint
-            told = "as with ample memory" if ending[:2] == ample[:2] else "otherwise"
-            if told == "otherwise" and re.search(rb"AllocError|AllocFailed|OutOfMemory|out of memory|\b60\b", said):
-                told = "with an allocation error or 60"
+            told = ending_of_test(ample, ending, complaint)
             counts[told] += 1
             if told == "otherwise":
                 wrong += 1
+                said = ending[1] + complaint
                 print(f"{crate} {name}, allocation {number}: {ending[0]}, {said[-200:]!r}", flush=True)
+            # A run that is aborted does not count the allocations after the refused one.
+            if ending[0] < 0:
+                allocations = most
     print(f"tests of {crate}: " + ", ".join(f"{runs} runs ended {told}" for told, runs in sorted(counts.items())), flush=True)
     if left_out:
         print(f"tests of {crate} left out: " + ", ".join(left_out), flush=True)
@@ -259,7 +305,8 @@ def main():
         for name, octets in INPUTS.items():
             with open(name, "wb") as file:
                 file.write(octets)
-        wrong = refuse_in_check(library, refusing) + refuse_in_calls(library, refusing) if library else 0
+        wrong = refuse_in_growing(refusing)
+        wrong += refuse_in_check(library, refusing) + refuse_in_calls(library, refusing) if library else 0
         wrong += refuse_in_program(program, refusing, SHORT if is_short else INPUTS)
         wrong += sum(refuse_in_tests(crate, refusing, SHORT_TESTS if is_short else None) for crate in crates)
     print("each run ended as it should" if wrong == 0 else f"{wrong} runs ended otherwise")
