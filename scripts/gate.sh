@@ -147,8 +147,9 @@ if [ -x "$program" ]; then
     step README 900 scripts/readme
     step tools 900 bash -c 'needs python3 && python3 tools/test_tools.py'
     step 'words that are not UTF-8' 900 scripts/words.sh
+    step explanations 900 scripts/explained.sh
     step completions 900 completions/test
-    step 'limits of texts' 900 bash -c 'needs python3 && scripts/limits.py "$PLISTCONV"'
+    step 'long input' 900 bash -c 'needs python3 && scripts/limits.py "$PLISTCONV"'
     # Prints its seed, so that differences can be reproduced.
     ended fuzz
     echo "    seed $seed"
