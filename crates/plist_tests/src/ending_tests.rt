@@ -1,6 +1,6 @@
 //! The program that ends with its run, and one that continues, over the files of the host.
-use crate::chance::NoChance;
 use crate::host_tests::{holds, put_files, remove_files, status_of};
+use crate::strict::StrictHost;
 use crate::words::words_of;
 use crate::worked_files::{TABLE, WRITTEN_TEXT};
 use plist_convert::run_to_end;
@@ -27,8 +27,8 @@ enum Running {
     On,
     /// One that ends.
     ToEnd,
-    /// One that ends, on a system without random bytes.
-    ToEndWithoutChance,
+    /// One that ends, on a system without random bytes whose files are strict.
+    ToEndStrictly,
 }
 
 // Runs the program and returns its exit status.
@@ -38,8 +38,8 @@ fn status_at(rt: &HostRuntime, words: &[&str], running: Running) -> u8 {
     match running {
         Running::On => status_of(rt, words, &mut output),
         Running::ToEnd => run_to_end(rt, rt.alloc(), words, &mut input, &mut output),
-        Running::ToEndWithoutChance => {
-            run_to_end(&NoChance(rt), rt.alloc(), words, &mut input, &mut output)
+        Running::ToEndStrictly => {
+            run_to_end(&StrictHost(rt), rt.alloc(), words, &mut input, &mut output)
         }
     }
 }
@@ -49,7 +49,7 @@ fn status_at(rt: &HostRuntime, words: &[&str], running: Running) -> u8 {
 fn wrong_ending(rt: &HostRuntime) -> Result<Option<&'static str>, Fail> {
     for (text, stands, want) in &ENDINGS {
         let words = words_of(rt.alloc(), text)?;
-        for running in [Running::On, Running::ToEnd, Running::ToEndWithoutChance] {
+        for running in [Running::On, Running::ToEnd, Running::ToEndStrictly] {
             fs::write(rt, "old", b"old")?;
             let status = status_at(rt, words.as_slice(), running);
             if status != *want || !holds(rt, "old", stands)? {

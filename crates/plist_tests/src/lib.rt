@@ -5,9 +5,9 @@
 #![tactic(auto)]
 
 #[cfg(test)]
-mod chance;
-#[cfg(test)]
 mod depth;
+#[cfg(test)]
+mod device_tests;
 #[cfg(test)]
 mod devices;
 #[cfg(test)]
@@ -39,6 +39,8 @@ mod object_tests;
 #[cfg(test)]
 mod openstep_tests;
 #[cfg(test)]
+mod order_tests;
+#[cfg(test)]
 mod prefixes;
 #[cfg(test)]
 mod print_tests;
@@ -48,6 +50,8 @@ mod readme;
 mod send_tests;
 #[cfg(test)]
 mod sink_tests;
+#[cfg(test)]
+mod strict;
 #[cfg(test)]
 mod surface;
 #[cfg(test)]

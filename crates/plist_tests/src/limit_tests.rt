@@ -220,7 +220,7 @@ fn is_own(alloc: Global, octets: &[u8]) -> Result<bool, Fail> {
 }
 
 // Returns whether the validator, the reader and `canonicalise` refuse the file with this fault.
-fn is_refused(alloc: Global, octets: &[u8], fault: BinaryFault) -> bool {
+pub(crate) fn is_refused(alloc: Global, octets: &[u8], fault: BinaryFault) -> bool {
     judge(alloc, octets).err() == Some(fault)
         && read(alloc, octets).err() == Some(fault)
         && canonicalise(alloc, octets).err() == Some(Fault::Binary(fault))

@@ -123,7 +123,7 @@ fn a_refused_growth_changes_no_answer(rt: HostRuntime) -> Result<(), Fail> {
             let printed = format!(in rt.alloc(); "{found:?}")?;
             assert_eq!(rt; printed.as_str(), TABLE_TOKENS);
         }
-        Err(fault) => assert_eq!(rt; fault, LexFault::OutOfMemory),
+        Err(fault) => assert!(rt; fault == LexFault::OutOfMemory, "a valid text is refused"),
     }
     match tokens(rt.alloc(), b"@") {
         Ok(_) => return Err(Fail::from("it is refused")),
