@@ -8,7 +8,7 @@ A run of the program with a failed allocation must end as with ample memory, or 
 writing as many bytes as that line says. If it fails before the first byte was written, the output file must be
 unchanged. A test must pass, or return an allocation error or 60. One whose assertion fails was given another answer,
 whatever numbers the assertion prints; bench/growing.c is a test that ends in each of these ways. Tests that make more
-than 2,000 allocations, or take longer than a second, are left out by name.
+than 2,000 allocations, take longer than a second, or cannot tell these endings, are left out by name.
 
 With --library each allocation of plistconv_check fails in turn, on the canonical file of the array of the strings 000
 to 254. The function builds no value, so it makes fewer than 100 allocations. If the 100th is to fail, the answer is
@@ -78,6 +78,11 @@ OTHER_WORDS = [["--help"], ["convert", "--help"], ["--version"], ["turn", "table
 # The test that reads the value of the file that plistconv_check is tried on.
 BUILDS = "growths::a_value_of_many_strings_is_read"
 
+
+# The tests that do not tell refused memory from another answer: they assert whole outputs or statuses, or write to a
+# list whose refused growth is a failed write, 51. The calls that they make are those of SHORT_TESTS.
+UNTOLD = ("device_tests::", "help_tests::", "host_tests::", "judge_tests::keys_in_another_order", "memory_tests::",
+          "order_tests::", "print_tests::a_sink_of_any_room", "sink_tests::a_writer_takes_what_is_put")
 
 # What a test prints if one of its calls returned an allocation error or 60: the error that it returns itself, or the
 # left side of a failed comparison, which is what the call returned. The right side is what was wanted instead, and the
@@ -261,7 +266,8 @@ def refuse_in_tests(crate, refusing, only=None):
     for name in names:
         begin = time.perf_counter()
         ample, complaint, allocations = refusing.run([program, name], b"", 0)
-        if only is None and (time.perf_counter() - begin > 1 or allocations > MOST):
+        is_long = time.perf_counter() - begin > 1 or allocations > MOST
+        if only is None and (is_long or name.startswith(UNTOLD)):
             left_out.append(name)
             continue
         if name == BUILDS and (allocations <= 255 or refusing.run([program, name], b"", 100)[0][:2] == ample[:2]):
