@@ -1,6 +1,6 @@
 //! Refused memory: each call that allocates returns 60, or the same as with ample memory.
-//! bench/growths.py runs a test once for each of its allocations, which it refuses from outside. The
-//! text of an assertion names no 60, so that a failed one is not taken for a 60 that was returned.
+//! bench/growths.py runs a test once for each of its allocations, which it refuses from outside.
+//! The text of an assertion names no 60, so that a failed one is not taken for a returned 60.
 use crate::files::numbers;
 use crate::worked_files::{TABLE, TABLE_TEXT, TWICE, UNSORTED, WRITTEN_TEXT};
 use ostep_text::{TextFault, TextWriteFault, judge_text, read_text, write_text};
