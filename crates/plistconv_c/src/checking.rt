@@ -46,21 +46,18 @@ pub extern "C" fn plistconv_check(
     ensures checked { result ≡ 0 → IsChecked octets.now finding.new refusal.new }
     ensures refused { result ≢ 0 → IsUnchecked octets.now finding.new refusal.new result }
 {
+    *finding = Finding {
+        object: 0,
+        canonical: 0,
+        rule: 0,
+    };
+    *refusal = Refusal::none();
     match checked(alloc, octets, key) {
         Ok(verdict) => {
             *finding = found(verdict);
-            *refusal = Refusal::none();
             0
         }
-        Err(fault) => {
-            *finding = Finding {
-                object: 0,
-                canonical: 0,
-                rule: 0,
-            };
-            *refusal = Refusal::of(&fault, 1);
-            fault.code()
-        }
+        Err(fault) => refusal.set(&fault, 1),
     }
 }
 

@@ -37,17 +37,11 @@ pub extern "C" fn plistconv_canonical(
     ensures refused { result ≢ 0
         → IsRefusedWhole octets.now into.old into.new length.new refusal.new result }
 {
+    *length = 0;
+    *refusal = Refusal::none();
     match canonical_file(alloc, octets, key) {
-        Ok(file) => {
-            give(&file, into, length);
-            *refusal = Refusal::none();
-            0
-        }
-        Err(fault) => {
-            *length = 0;
-            *refusal = Refusal::of(&fault, 1);
-            fault.code()
-        }
+        Ok(file) => give(&file, into, length),
+        Err(fault) => refusal.set(&fault, 1),
     }
 }
 
@@ -84,22 +78,15 @@ pub extern "C" fn plistconv_same(
     ensures refused { result ≢ 0
         → IsRefusedPair first.now second.now equal.new refusal.new result }
 {
+    *equal = 0;
+    *refusal = Refusal::none();
     match is_same(alloc, first, second, key) {
         Ok(same) => {
             *equal = same as u8;
-            *refusal = Refusal::none();
             0
         }
-        Err(PairFault::First(fault)) => {
-            *equal = 0;
-            *refusal = Refusal::of(&fault, 1);
-            fault.code()
-        }
-        Err(PairFault::Second(fault)) => {
-            *equal = 0;
-            *refusal = Refusal::of(&fault, 2);
-            fault.code()
-        }
+        Err(PairFault::First(fault)) => refusal.set(&fault, 1),
+        Err(PairFault::Second(fault)) => refusal.set(&fault, 2),
     }
 }
 

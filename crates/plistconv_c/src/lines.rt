@@ -35,10 +35,7 @@ pub extern "C" fn plistconv_line(
         return 255;
     };
     match line_at(alloc, path, &fault) {
-        Ok(text) => {
-            give(&text, into, length);
-            0
-        }
+        Ok(text) => give(&text, into, length),
         Err(AllocError) => 60,
     }
 }

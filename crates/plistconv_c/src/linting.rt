@@ -19,15 +19,10 @@ pub extern "C" fn plistconv_lint(alloc: Global, octets: &[u8], refusal: &mut Ref
     ensures linted { result ≡ 0 → IsLinted octets.now refusal.new }
     ensures refused { result ≢ 0 → IsRefusalReported octets.now refusal.new result }
 {
+    *refusal = Refusal::none();
     match judged(alloc, octets) {
-        Ok(()) => {
-            *refusal = Refusal::none();
-            0
-        }
-        Err(fault) => {
-            *refusal = Refusal::of(&fault, 1);
-            fault.code()
-        }
+        Ok(()) => 0,
+        Err(fault) => refusal.set(&fault, 1),
     }
 }
 

@@ -32,17 +32,11 @@ pub extern "C" fn plistconv_print(
     ensures refused { result ≢ 0
         → IsRefusedWhole octets.now into.old into.new length.new refusal.new result }
 {
+    *length = 0;
+    *refusal = Refusal::none();
     match printed_text(alloc, octets) {
-        Ok(text) => {
-            give(&text, into, length);
-            *refusal = Refusal::none();
-            0
-        }
-        Err(fault) => {
-            *length = 0;
-            *refusal = Refusal::of(&fault, 1);
-            fault.code()
-        }
+        Ok(text) => give(&text, into, length),
+        Err(fault) => refusal.set(&fault, 1),
     }
 }
 

@@ -1,5 +1,5 @@
 //! A refusal as a number and a place.
-ghost use Rattle.std.specs.Prelude.{◌≡◌};
+ghost use Rattle.std.specs.Prelude.{◌≡◌, ◌<◌};
 ghost use Rattle.plistconv_c.specs.Refusals.{no_refusal, place_of, refusal_of, unit_of};
 
 use plist_forms::Fault;
@@ -42,6 +42,16 @@ impl Refusal {
             unit: unit(report.1),
             input,
         }
+    }
+
+    // Sets the fields to those of the fault, and returns the number of the refusal.
+    pub(crate) fn set(&mut self, fault: &Fault, input: u8) -> u8
+        ensures set { self.new ≡ refusal_of fault.now input }
+        ensures number { result ≡ self.new.number }
+        ensures above { 0 < result }
+    {
+        *self = Refusal::of(fault, input);
+        self.number
     }
 }
 

@@ -16,7 +16,7 @@ returns-in-Ok-clause-given c = λ _.
     let given : (octets : List ℕ) → octets ≡ line_of path one
     → IsGiven octets c.args.into.now c.give.new.into c.give.new.length =
     λ octets is. subst (λ (xs : List ℕ). IsGiven xs c.args.into.now c.give.new.into c.give.new.length)
-    ((c.deref.ensures.value ∙ c.in-Ok.ensures) ∙ sym is) c.give.ensures in
+    ((c.deref.ensures.value ∙ c.in-Ok.ensures) ∙ sym is) c.give.ensures.given in
     record {
       known = (one, (c.args.refusal.now.input, reported));
       given = λ fault input is. given (line_of path fault)
