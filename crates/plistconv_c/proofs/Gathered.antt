@@ -13,9 +13,7 @@ use Rattle.plist_forms.specs.declared.forms.Form.TheVariants.{OpenStep}
 use Rattle.plist_forms.specs.declared.loading.TheConstants.{MAX_INPUT}
 use Rattle.plistconv_c.specs.Answers.{gathered_fault}
 use Rattle.plistconv_c.specs.Inputs as input
-use Rattle.plistconv_c.specs.Refusals.{refusal_of}
-use Rattle.plistconv_c.specs.Texts.{IsTextFault, IsUnwritten, no_text, unread}
-use Rattle.plistconv_c.specs.declared.refusals.Refusal.{Refusal}
+use Rattle.plistconv_c.specs.Texts.{IsTextFault, no_text, unread}
 
 no_memory : (octets : List ℕ) → IsRefused octets (OutOfMemory 0)
 no_memory octets = record { stands = refl; none = λ other v accepted. other refl }
@@ -43,9 +41,9 @@ gathered_refused octets old new before after fault (inr goes) = front_fault octe
 
 unsent_text : (octets : List ℕ) (fault : Fault) → length octets ≤ MAX_INPUT → IsOutputFault OpenStep octets fault
     → IsTextFault octets (gathered_fault fault)
-unsent_text octets fault within (inl unfit) = inl (input.refused within (refused_fault octets fault unfit))
+unsent_text octets fault within (inl unfit) = unread (input.refused within (refused_fault octets fault unfit))
 unsent_text octets fault within (inr none) = rw none.is
-    (inr (within, record { value = none.value; accepted = none.accepted; none = none.none; is = refl }))
+    (no_text none.value (record { within = within; accepted = none.accepted }) none.none refl)
 
 -- an incomplete OpenStep text fails with this refusal
 pub gathered_unwritten : (octets : List ℕ) (old new : Option (List ℕ)) (before after : ℕ) (fault : Fault)
@@ -55,11 +53,4 @@ gathered_unwritten octets old new before after fault within (inl unsent) =
     let same : unsent.fault ≡ fault = (let is = unsent.is in cc) in
     unsent_text octets fault within (rw same at unsent.cause)
 gathered_unwritten octets old new before after fault within (inr goes) =
-    inl (input.refused within (front_fault octets fault goes.sent goes.is))
-
--- what the refusal of a text says of the input
-pub unwritten : (octets : List ℕ) (fault : Fault) (reported : Refusal) → IsTextFault octets fault → reported ≡ refusal_of fault 1
-    → IsUnwritten octets reported
-unwritten octets fault reported (inl unfit) is = unread fault unfit is
-unwritten octets fault reported (inr none) is =
-    no_text none.1.value (record { within = none.0; accepted = none.1.accepted }) none.1.none (rw none.1.is at is)
+    unread (input.refused within (front_fault octets fault goes.sent goes.is))
