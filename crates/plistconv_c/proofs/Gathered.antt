@@ -1,4 +1,4 @@
--- From what a call that sends a text ensures to what is gathered of it.
+-- The refusal of a call that gathers its output, from what the call that sends it ensures.
 use Rattle.std.proofs.Common.{inl, inr, refl, Err, List, Ok, Option, Result, ℕ, length, ◌≡◌, ◌≤◌}
 use Rattle.plist_forms.specs.Output.{IsOutputFault}
 use Rattle.plist_forms.specs.Printed.{Prints}

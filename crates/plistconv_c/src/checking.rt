@@ -61,7 +61,7 @@ pub extern "C" fn plistconv_check(
     }
 }
 
-// Checks an input with the key, if it is not too large.
+// Checks a file like [`verdict_of`]. Refuses more than `MAX_INPUT` bytes.
 fn checked(alloc: Global, octets: &[u8], key: &[u8; 16]) -> Result<Verdict, Fault>
     ensures fault { IfErr result (IsCheckRefused octets.now) }
     ensures within { OnOk result (length octets.now ≤ MAX_INPUT) }
@@ -77,7 +77,7 @@ fn checked(alloc: Global, octets: &[u8], key: &[u8; 16]) -> Result<Verdict, Faul
     }
 }
 
-// Checks a file with the key.
+// Checks whether a file is canonical. Hashes scalars with the key, if there is one.
 fn verdict_of(alloc: Global, octets: &[u8], key: &[u8; 16]) -> Result<Verdict, CheckFault>
     ensures fault { IfErr result (IsCheckFault octets.now) }
     ensures laid { IfOk result (λ _. IsLaid octets.now) }

@@ -9,8 +9,8 @@ use ostep_text::TextFault;
 use plist_binary::BinaryFault;
 use plist_forms::Fault;
 
-// Returns the fault that the refusal describes, if there is one. Several faults may look the same
-// as a refusal; returns one of them.
+// Returns a fault that the refusal describes, if there is one. Several faults can have the same
+// refusal.
 pub(crate) fn fault_of(refusal: &Refusal) -> Option<Fault>
     ensures found { IfSome result (λ fault. refusal.now ≡ refusal_of fault refusal.now.input) }
     ensures none { result ≡ None → IsUnreported refusal.now }

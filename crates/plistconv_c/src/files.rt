@@ -45,7 +45,7 @@ pub extern "C" fn plistconv_canonical(
     }
 }
 
-// Makes the canonical file with the key, if the input is not too large.
+// Returns the canonical file of the value of `octets`. Refuses more than `MAX_INPUT` bytes.
 fn canonical_file(alloc: Global, octets: &[u8], key: &[u8; 16]) -> Result<Vec<u8>, Fault>
     ensures within { OnOk result (length octets.now ≤ MAX_INPUT) }
     ensures canonical { IfOk result (λ file. IsCanonicalOf octets.now file.items) }
@@ -90,7 +90,7 @@ pub extern "C" fn plistconv_same(
     }
 }
 
-// Compares two inputs with the key, if neither is too large.
+// Compares the values of two inputs. Refuses an input of more than `MAX_INPUT` bytes.
 fn is_same(alloc: Global, first: &[u8], second: &[u8], key: &[u8; 16]) -> Result<bool, PairFault>
     ensures first { OnOk result (length first.now ≤ MAX_INPUT) }
     ensures second { OnOk result (length second.now ≤ MAX_INPUT) }

@@ -1,4 +1,4 @@
-//! A sink that gathers bytes in memory.
+//! A sink that collects bytes in memory.
 ghost use Rattle.std.specs.Prelude.{◌≡◌, [], None, Some};
 ghost use Rattle.plistconv_c.specs.Answers.{gathered_fault};
 
@@ -6,7 +6,7 @@ use plist_devices::{DeviceFault, Sink};
 use plist_forms::Fault;
 use std::alloc::Global;
 
-/// A sink that keeps all bytes that it takes. A put fails only if out of memory.
+/// A [`Sink`] that collects all bytes in a vector. `put` fails only if out of memory.
 #[derive(Drop)]
 pub(crate) struct Gathering {
     pub(crate) octets: Vec<u8>,
@@ -44,7 +44,8 @@ impl Sink for Gathering {
     }
 }
 
-/// Returns the refusal of a call that gathers its output: a put fails only if out of memory.
+/// Converts the fault of a call that writes to a [`Gathering`]. Such a write fails only if out of
+/// memory, and the caller has then received nothing.
 pub(crate) fn unsent(fault: Fault) -> Fault
     ensures { result ≡ gathered_fault fault }
 {

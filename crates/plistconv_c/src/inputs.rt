@@ -17,7 +17,8 @@ pub(crate) fn admit(octets: &[u8]) -> Result<(), Fault>
     Ok(())
 }
 
-// Refuses two inputs if one is too large: the second only if the first is accepted.
+// Refuses two inputs if one has more than `MAX_INPUT` bytes. The second is refused only if the
+// first is accepted.
 pub(crate) fn admit_pair(alloc: Global, first: &[u8], second: &[u8]) -> Result<(), PairFault>
     ensures first { OnOk result (length first.now ≤ MAX_INPUT) }
     ensures second { OnOk result (length second.now ≤ MAX_INPUT) }

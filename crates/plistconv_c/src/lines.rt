@@ -40,13 +40,13 @@ pub extern "C" fn plistconv_line(
     }
 }
 
-// Returns the line of the fault for a path, which may have any bytes.
+// Returns the line of the fault. Like [`line`], but the path may have any bytes.
 fn line_at(alloc: Global, path: &[u8], fault: &Fault) -> Result<Vec<u8>, AllocError>
     ensures { IfOk result (λ text. text.items ≡ line_of path.now fault.now) }
 {
-    let behind = line(alloc, "", fault)?;
+    let rest = line(alloc, "", fault)?;
     let mut text = Vec::new(alloc);
     text.extend_from_slice(path)?;
-    text.extend_from_slice(behind.as_bytes())?;
+    text.extend_from_slice(rest.as_bytes())?;
     Ok(text)
 }

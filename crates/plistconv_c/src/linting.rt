@@ -26,7 +26,7 @@ pub extern "C" fn plistconv_lint(alloc: Global, octets: &[u8], refusal: &mut Ref
     }
 }
 
-// Validates an input, if it is not too large.
+// Validates an input. Refuses more than `MAX_INPUT` bytes.
 fn judged(alloc: Global, octets: &[u8]) -> Result<(), Fault>
     ensures accepted { OnOk result ((v : Plist) × IsInputAccepted octets.now v) }
     ensures refused { IfErr result (IsInputRefused octets.now) }

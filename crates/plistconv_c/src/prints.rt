@@ -40,7 +40,7 @@ pub extern "C" fn plistconv_print(
     }
 }
 
-// Returns the printed text of the value of `octets`. Nothing was sent yet if memory runs out.
+// Returns the printed text of the value of `octets`. Refuses more than `MAX_INPUT` bytes.
 fn printed_text(alloc: Global, octets: &[u8]) -> Result<Vec<u8>, Fault>
     ensures within { OnOk result (length octets.now ≤ MAX_INPUT) }
     ensures text { IfOk result (λ text. IsPrintOf octets.now text.items) }
