@@ -103,7 +103,7 @@ stored_taken form octets old new before after failures path taken result (inr go
 })
 
 -- nothing was sent
-none_sent : (octets : List ℕ) (sent : ℕ) → sent ≤ length octets → [] ≡ take sent octets → sent ≡ 0
+pub none_sent : (octets : List ℕ) (sent : ℕ) → sent ≤ length octets → [] ≡ take sent octets → sent ≡ 0
 none_sent octets sent within none = sym (ap length none ∙ length-take-le sent octets within)
 
 -- the path is unchanged if nothing was sent to it

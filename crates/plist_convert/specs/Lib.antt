@@ -11,5 +11,6 @@ pub mod Reading
 pub mod Files
 pub mod FileDisk
 pub mod Opens
+pub mod OneProof
 pub mod MemoryFiles
 pub mod MemoryDisk

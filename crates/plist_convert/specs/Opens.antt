@@ -20,9 +20,23 @@ ReadsAll files path to_come = IfSome files (λ at. (octets : List ℕ) × ((at p
 abbrev pub IsUnopened : Option Files → FileName → Error → Type 0
 IsUnopened files path error = error_kind error ≢ kind.OutOfMemory → Lacks files path
 
+-- the refusal of a file that is not opened: 60 if out of memory, else 50
+abbrev pub IsUnopenedAs : Error → Fault → Type 0
+IsUnopenedAs error fault =
+    ((error_kind error ≡ kind.OutOfMemory) × (fault ≡ OutOfMemory 0)) ⊎ ((error_kind error ≢ kind.OutOfMemory) × (fault ≡ ReadFailed))
+
+-- the writer has written these bytes and no others, if the opener knows the files
+abbrev pub HasWritten : Option Files → Option (List ℕ) → List ℕ → Type 0
+HasWritten files contents octets = IfSome files (λ _. contents ≡ Some octets)
+
 -- the writer has written nothing
 abbrev pub IsNew : Option Files → Option (List ℕ) → Type 0
-IsNew files contents = IfSome files (λ _. contents ≡ Some [])
+IsNew files contents = HasWritten files contents []
+
+-- if the file at the path is not what it was, it is empty; every other file is what it was
+abbrev pub MayEmpty : FileName → Option Files → Option Files → Type 0
+MayEmpty path before after =
+    Turns before after (λ old new. (new path ≢ old path → new path ≡ Some []) × ((other : FileName) → other ≢ path → new other ≡ old other))
 
 -- the file at the path is what was written, and every other file is what it was
 abbrev pub Puts : FileName → Option (List ℕ) → Option Files → Option Files → Type 0
@@ -71,12 +85,12 @@ is_begun (Some at) (Some None) = false
 is_begun (Some at) (Some (Some [])) = false
 is_begun (Some at) (Some (Some (octet ∷ octets))) = true
 
--- the outcome of writing the output for the bytes to a device: its contents before and after
-abbrev pub Sends : Form → List ℕ → Option (List ℕ) → Option (List ℕ) → Result ℕ Fault → Type 0
-Sends form octets old new result = (failures : ℕ) × Writes form octets old new 0 failures result
-
 -- What is sent to a file that is created at its first write: the output for the bytes, or the
--- prefix that the refusal states. Nothing is sent if there is no writer.
-abbrev pub Creates : Form → List ℕ → Option Files → Option (Option (List ℕ)) → Result ℕ Fault → Type 0
-Creates form octets files contents result =
-    Sends form octets (held_by files None) (held_by files contents) result × (is_begun files contents ≡ true)
+-- prefix that the refusal states. Until it is closed its file is what it was or empty. If nothing
+-- was written and no write failed, no file is changed.
+pub record Creates (form : Form) (octets : List ℕ) (path : FileName) (before after : Option Files) (contents : Option (Option (List ℕ))) (result : Result ℕ Fault) : Type 0 where
+  pub failures : ℕ
+  pub writes : Writes form octets (held_by before None) (held_by before contents) 0 failures result
+  pub begun : is_begun before contents ≡ true
+  pub emptied : MayEmpty path before after
+  pub untouched : contents ≡ None → failures ≡ 0 → SameFiles before after

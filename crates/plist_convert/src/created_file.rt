@@ -1,79 +1,156 @@
-//! A file that is unchanged before its first write.
-ghost use Rattle.std.specs.Prelude.{◌≡◌, None, option_map, true};
+//! A file that is unchanged before its first put.
+ghost use Rattle.std.specs.Prelude.{◌≡◌, ◌<◌, ◌≤◌, None, Option, Some, option_map, length, true};
+ghost use Rattle.std.specs.Prelude.{IfOk, take};
 ghost use Rattle.std.specs.Option.{ForSome};
-ghost use Rattle.plist_convert.specs.Files.{FileName};
-ghost use Rattle.plist_convert.specs.Opens.{held_by, is_begun, written_of};
+ghost use Rattle.std.specs.Io.KnownBytes.{WriteAppends};
+ghost use Rattle.plist_convert.specs.Files.{FileName, Files, SameFiles};
+ghost use Rattle.plist_convert.specs.Opens.{HasWritten, MayEmpty, held_by, is_begun, written_of};
+ghost use Rattle.plist_convert.specs.OneProof.{IsUntouched-prop, MayEmpty-prop};
 
 use crate::opens::{Created, Opens};
+use plist_devices::{DeviceFault, Sink};
 use std::alloc::Global;
-use std::io;
 use std::io::Write;
 use std::marker::{Brand, PhantomData};
 
-/// Where a file is to be created.
+/// The path of a file that is to be created.
 #[derive(Drop)]
-pub(crate) struct Target<'o, 'p, O> {
-    pub(crate) opener: &'o O,
+pub(crate) struct Target<'p> {
     pub(crate) path: &'p str,
 }
 
-/// The path of a target, which a type then knows.
+/// What a type knows of a file that is to be created.
 pub(crate) trait Place {
+    // Its path.
     ghost path: { FileName };
+
+    // The files of its opener before it is created.
+    ghost files: { Option Files };
 }
 
 impl Place for Brand {
     ghost use Rattle.std.specs.Prelude.{[]};
 
     ghost path = { [] };
+
+    ghost files = { None };
 }
 
-/// The file at the path of a target. It is created or emptied by the first write.
+/// The file at a path. It is created or emptied by the first put of a piece that is not empty. Once
+/// a put has failed, every put fails.
 #[derive(Drop)]
 pub(crate) struct CreatedFile<'o, 'p, O: Opens, K: Place> {
     alloc: Global,
-    target: Target<'o, 'p, O>,
+    pub(crate) opener: &'o mut O,
+    path: &'p str,
     pub(crate) created: Option<Created<'p, O::Writer>>,
+    failures: u64,
     place: PhantomData<K>,
-    ghost begun: { is_begun (O.files target.opener.now)
-        (option_map (written_of O.Writer.contents) created) ≡ true },
-    ghost known: { target.path.now ≡ K.path },
+    ghost known: { path.now ≡ K.path },
     ghost placed: { ForSome created (λ created. created.path.now ≡ K.path) },
+    ghost begun: { is_begun K.files (option_map (written_of O.Writer.contents) created) ≡ true },
+    ghost emptied: { MayEmpty K.path K.files (O.files opener.now) } by { MayEmpty-prop K.path K.files (O.files opener.now) },
+    ghost untouched: { created ≡ None → failures ≡ 0 → SameFiles K.files (O.files opener.now) } by { IsUntouched-prop K.files (O.files opener.now) },
 }
 
 impl<'o, 'p, O: Opens, K: Place> CreatedFile<'o, 'p, O, K> {
-    /// Returns the file of the target, which is unchanged so far.
-    pub(crate) fn new(alloc: Global, target: Target<'o, 'p, O>) -> CreatedFile<'o, 'p, O, K>
-        requires { target.path.now ≡ K.path }
-        ensures target { result.target ≡ target.entry }
+    /// Returns the file at the path, which is unchanged so far.
+    pub(crate) fn new(alloc: Global, opener: &'o mut O, path: &'p str) -> CreatedFile<'o, 'p, O, K>
+        requires path { path.now ≡ K.path }
+        requires files { O.files opener.old ≡ K.files }
+        ensures opener { result.opener.ghost_name ≡ opener.entry.ghost_name }
         ensures created { result.created ≡ None }
+        ensures failures { result.failures ≡ 0 }
     {
         CreatedFile {
             alloc,
-            target,
+            opener,
+            path,
             created: None,
+            failures: 0,
             place: PhantomData,
         }
     }
 }
 
-impl<O: Opens, K: Place> Write for CreatedFile<'_, '_, O, K> {
-    ghost contents = { λ file. held_by (O.files file.target.opener.now)
+impl<O: Opens, K: Place> Sink for CreatedFile<'_, '_, O, K> {
+    ghost taken = { λ file. held_by K.files
         (option_map (written_of O.Writer.contents) file.created) };
 
-    fn write(&mut self, piece: &[u8]) -> io::Result<usize> {
-        if let Some(created) = &mut self.created {
-            return created.writer.write(piece);
+    ghost failures = { λ file. file.failures };
+
+    ghost device = { λ file. Some file.opener.ghost_name };
+
+    fn put(&mut self, piece: &[u8]) -> Result<usize, DeviceFault> {
+        if self.failures > 0 {
+            self.failures = self.failures.saturating_add(1);
+            return Err(DeviceFault);
         }
-        let mut created = self.target.opener.create(self.alloc, self.target.path)?;
-        let count = created.writer.write(piece)?;
-        if count > 0 {
-            self.created = Some(created);
+        if piece.is_empty() {
+            return Ok(0);
         }
-        Ok(count)
+        // Unless it ends well, the put has failed.
+        self.failures = 1;
+        match &mut self.created {
+            Some(created) => {
+                let taken = write_some(&mut created.writer, piece)?;
+                self.failures = 0;
+                Ok(taken)
+            }
+            None => {
+                let (created, taken) = begin(self.opener, self.alloc, self.path, piece)?;
+                self.created = Some(created);
+                self.failures = 0;
+                Ok(taken)
+            }
+        }
     }
 
-    fn flush(&mut self) -> io::Result<()> {
-        Ok(())
+    fn failures(&self) -> u64 {
+        self.failures
+    }
+}
+
+/// Creates or empties the file at the path and writes the start of the piece to it. Returns the
+/// file and the number of bytes written, which is above 0.
+///
+/// # Errors
+///
+/// [`DeviceFault`] if the file cannot be created or takes nothing. It is unchanged or empty then.
+fn begin<'p, O: Opens>(
+    opener: &mut O,
+    alloc: Global,
+    path: &'p str,
+    piece: &[u8],
+) -> Result<(Created<'p, O::Writer>, usize), DeviceFault>
+    ensures path { IfOk result (λ begun. begun.0.path.now ≡ path.entry.now) }
+    ensures some { IfOk result (λ begun. 0 < begun.1) }
+    ensures within { IfOk result (λ begun. begun.1 ≤ length piece.now) }
+    ensures written { IfOk result (λ begun. HasWritten (O.files opener.old)
+        (O.Writer.contents begun.0.writer) (take begun.1 piece.now)) }
+    ensures emptied { MayEmpty path.entry.now (O.files opener.old) (O.files opener.new) }
+{
+    let Ok(created) = opener.create(alloc, path) else {
+        return Err(DeviceFault);
+    };
+    let mut created = created;
+    let taken = write_some(&mut created.writer, piece)?;
+    Ok((created, taken))
+}
+
+/// Writes the start of the piece and returns the number of bytes written, which is above 0.
+///
+/// # Errors
+///
+/// [`DeviceFault`] if the write fails or takes nothing.
+fn write_some<W: Write>(writer: &mut W, piece: &[u8]) -> Result<usize, DeviceFault>
+    ensures some { IfOk result (λ taken. 0 < taken) }
+    ensures within { IfOk result (λ taken. taken ≤ length piece.now) }
+    ensures octets { WriteAppends (W.contents writer.old) (W.contents writer.new)
+        result piece.now }
+{
+    match writer.write(piece) {
+        Ok(taken) if taken > 0 => Ok(taken),
+        _ => Err(DeviceFault),
     }
 }

@@ -3,16 +3,16 @@ ghost use Rattle.std.specs.Prelude.{◌≡◌, IfErr, IfOk, IfSome, OnErr, optio
 ghost use Rattle.plist_forms.specs.Load.{octets_or};
 ghost use Rattle.plist_convert.specs.Files.{Holds, SameFiles};
 ghost use Rattle.plist_convert.specs.Opens.{CountsUnread, Creates, HasFailing, IsUnfound};
-ghost use Rattle.plist_convert.specs.Opens.{Sends, Settles, written_of};
+ghost use Rattle.plist_convert.specs.Opens.{IsUnopenedAs, Settles, written_of};
 
 use crate::created_file::{CreatedFile, Place, Target};
 use crate::disks::{Disk, failures_after};
 use crate::opens::{Created, Opens, Steady};
-use plist_devices::Stream;
 use plist_forms::{Fault, Form, convert_octets, load_unless};
 use std::alloc::{AllocError, Global};
 use std::hash::BuildHasher;
-use std::io::{ErrorKind, Write};
+use std::io;
+use std::io::ErrorKind;
 use std::marker::Brand;
 
 /// A disk with the files of an opener. It knows their contents if the opener does.
@@ -73,9 +73,16 @@ impl<O: Steady, H: BuildHasher + Copy> Disk for FileDisk<O, H> {
         octets: Vec<u8>,
         form: Form,
     ) -> Result<u64, Fault> {
-        let opener = &self.opener;
-        let target = Target { opener, path };
-        let (created, stored) = create::<O, H, Brand>(alloc, self.hasher, target, octets, form);
+        let opener = &mut self.opener;
+        let target = Target { path };
+        let (created, stored) = create::<O, H, Brand>(
+            opener,
+            alloc,
+            self.hasher,
+            target,
+            octets,
+            form,
+        );
         settle(&mut self.opener, alloc, created)?;
         self.failures = failures_after(self.failures, &stored);
         stored
@@ -108,10 +115,17 @@ fn octets_at<O: Opens>(
             let mut reader = reader;
             load_unless(alloc, &mut reader, known)
         }
-        Err(error) if error.kind() == ErrorKind::OutOfMemory => {
-            Err(Fault::OutOfMemory { sent: 0 })
-        }
-        Err(_) => Err(Fault::ReadFailed),
+        Err(error) => Err(unopened(&error)),
+    }
+}
+
+/// Returns the refusal of a file that cannot be opened.
+fn unopened(error: &io::Error) -> Fault
+    ensures { IsUnopenedAs error.now result }
+{
+    match error.kind() {
+        ErrorKind::OutOfMemory => Fault::OutOfMemory { sent: 0 },
+        _ => Fault::ReadFailed,
     }
 }
 
@@ -126,39 +140,32 @@ fn failures_after_load(failures: u64, found: &Result<Option<Vec<u8>>, Fault>) ->
 }
 
 /// Converts the bytes to this form and writes the output to the file of the target, which is
-/// created at the first write. Returns the file if it was created. Fails like [`send`].
+/// created at the first write. Returns the file if it was created. Fails like [`convert_octets`].
 fn create<'p, O: Opens, H: BuildHasher + Copy, K: Place>(
+    opener: &mut O,
     alloc: Global,
     hasher: H,
-    target: Target<'_, 'p, O>,
+    target: Target<'p>,
     octets: Vec<u8>,
     form: Form,
 ) -> (Option<Created<'p, O::Writer>>, Result<u64, Fault>)
-    requires { target.path.now ≡ K.path }
-    ensures placed { IfSome result.0 (λ created. created.path.now ≡ K.path) }
-    ensures creates { Creates form octets.items (O.files target.entry.opener.now)
+    requires path { target.path.now ≡ K.path }
+    requires files { O.files opener.old ≡ K.files }
+    ensures placed { IfSome result.0 (λ created. created.path.now ≡ target.entry.path.now) }
+    ensures creates { Creates form octets.items target.entry.path.now
+        (O.files opener.old) (O.files opener.new)
         (option_map (written_of O.Writer.contents) result.0) result.1 }
 {
-    let file: CreatedFile<O, K> = CreatedFile::new(alloc, target);
-    let (file, stored) = send(alloc, hasher, file, octets, form);
-    (file.created, stored)
-}
-
-/// Converts the bytes to this form and writes the output to the device, each piece in one write.
-/// Returns the device, which is not flushed, and the number of bytes that it took. Fails like
-/// [`convert_octets`].
-fn send<H: BuildHasher + Copy, W: Write + Drop>(
-    alloc: Global,
-    hasher: H,
-    to: W,
-    octets: Vec<u8>,
-    form: Form,
-) -> (W, Result<u64, Fault>)
-    ensures { Sends form octets.items (W.contents to) (W.contents result.0) result.1 }
-{
-    let mut device = to;
-    let sent = convert_octets(alloc, hasher, octets, &mut Stream::new(&mut device), form);
-    (device, sent)
+    let mut file: CreatedFile<O, K> = CreatedFile::new(alloc, opener, target.path);
+    let sent = convert_octets(alloc, hasher, octets, &mut file, form);
+    let CreatedFile {
+        opener: kept,
+        created,
+        ..
+    } = file;
+    // This has no effect. The proof takes from it what `opener` is in the end.
+    let _ = &*kept;
+    (created, sent)
 }
 
 /// Closes the file, if it was created. If out of memory for that, no file changes.

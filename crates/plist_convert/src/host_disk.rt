@@ -39,7 +39,7 @@ impl<'a, R: Files> Opens for HostFiles<'a, R> {
         }
     }
 
-    fn create<'p>(&self, _alloc: Global, path: &'p str) -> io::Result<Created<'p, R::File>> {
+    fn create<'p>(&mut self, _alloc: Global, path: &'p str) -> io::Result<Created<'p, R::File>> {
         let writer = fs::create(self.rt, path)?;
         Ok(Created { path, writer })
     }

@@ -1,6 +1,6 @@
 //! A disk in memory.
 ghost use Rattle.std.specs.Prelude.{◌≡◌, ◌≤◌, ◌<◌, IfErr, IfOk, OnErr, OnOk, None, Some};
-ghost use Rattle.std.specs.Prelude.{option_map};
+ghost use Rattle.std.specs.Prelude.{IsErrOf, option_map};
 ghost use Rattle.plist_forms.specs.Load.{octets_or};
 ghost use Rattle.plist_convert.specs.Files.{FileName, Holds, IsUnloaded, SameBeside};
 ghost use Rattle.plist_convert.specs.Files.{SameFiles, Stores};
@@ -76,6 +76,7 @@ impl Disk for MemoryDisk {
         ensures unfailed { OnOk result (failures_of self.new ≡ failures_of self.old) }
         ensures refused { IfErr result (IsUnloaded (Some (files_of self.old)) path.now
             (failures_of self.old) (failures_of self.new)) }
+        ensures missing { files_of self.old path.now ≡ None → IsErrOf result Fault.ReadFailed }
         ensures room { room_of self.new ≡ room_of self.old }
     {
         match self.load_unless(alloc, path, &[])? {
@@ -96,6 +97,7 @@ impl Disk for MemoryDisk {
         ensures unfailed { OnOk result (failures_of self.new ≡ failures_of self.old) }
         ensures refused { IfErr result (IsUnloaded (Some (files_of self.old)) path.now
             (failures_of self.old) (failures_of self.new)) }
+        ensures missing { files_of self.old path.now ≡ None → IsErrOf result Fault.ReadFailed }
         ensures room { room_of self.new ≡ room_of self.old }
     {
         let Some(octets) = self.at(path) else {

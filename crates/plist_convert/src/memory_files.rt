@@ -1,7 +1,8 @@
 //! Files in memory.
-ghost use Rattle.std.specs.Prelude.{◌≡◌, IfOk, OnErr, None, Some, option_map};
+ghost use Rattle.std.specs.Prelude.{◌≡◌, ℕ, IfErr, IfOk, OnErr, None, Some, option_map};
+ghost use Rattle.std.specs.IoError.{error_kind};
 ghost use Rattle.plist_convert.specs.Files.{FileName, SameBeside, SameFiles};
-ghost use Rattle.plist_convert.specs.Opens.{Puts};
+ghost use Rattle.plist_convert.specs.Opens.{IsUnopened, Puts, ReadsAll};
 
 use crate::opens::{Created, Opens, Steady};
 use plist_devices::{DeviceFault, Source};
@@ -56,6 +57,7 @@ impl MemoryFiles {
 }
 
 impl Opens for MemoryFiles {
+    ghost use Rattle.std.specs.Io.Cursor.{cursor_remaining};
     ghost use Rattle.plist_convert.specs.MemoryFiles.{bytes_at};
 
     type Reader = MemoryReader;
@@ -64,7 +66,14 @@ impl Opens for MemoryFiles {
 
     ghost files = { λ opener. Some (bytes_at opener) };
 
-    fn open(&self, alloc: Global, path: &str) -> io::Result<MemoryReader> {
+    fn open(&self, alloc: Global, path: &str) -> io::Result<MemoryReader>
+        ensures all { IfOk result (λ reader. ReadsAll (Some (bytes_at self.now)) path.now
+            (cursor_remaining (λ v. Some v.items) reader.octets)) }
+        ensures unfailed { IfOk result (λ _. ◌≡◌ {A = ℕ} 0 0) }
+        ensures missing { IfErr result (IsUnopened (Some (bytes_at self.now)) path.now) }
+        ensures kind { bytes_at self.now path.now ≡ None
+            → IfErr result (λ error. error_kind error ≡ ErrorKind.NotFound) }
+    {
         let Some(octets) = self.at(path) else {
             return Err(io::Error::from(ErrorKind::NotFound));
         };
@@ -74,7 +83,8 @@ impl Opens for MemoryFiles {
         })
     }
 
-    fn create<'p>(&self, alloc: Global, path: &'p str) -> io::Result<Created<'p, Vec<u8>>> {
+    fn create<'p>(&mut self, alloc: Global, path: &'p str) -> io::Result<Created<'p, Vec<u8>>> {
+        self.put(alloc, path, Vec::new(alloc))?;
         Ok(Created {
             path,
             writer: Vec::new(alloc),

@@ -1,7 +1,7 @@
 //! Opens files by path.
-ghost use Rattle.std.specs.Prelude.{◌≡◌, IfErr, IfOk, IfSome, OnErr, Option};
+ghost use Rattle.std.specs.Prelude.{◌≡◌, [], IfErr, IfOk, IfSome, OnErr, Option, Some};
 ghost use Rattle.plist_convert.specs.Files.{Files, SameFiles};
-ghost use Rattle.plist_convert.specs.Opens.{IsNew, IsUnopened, Puts, ReadsAll};
+ghost use Rattle.plist_convert.specs.Opens.{IsNew, IsUnopened, MayEmpty, Puts, ReadsAll};
 
 use plist_devices::Source;
 use std::alloc::{AllocError, Global};
@@ -35,11 +35,16 @@ pub trait Opens {
         ensures unfailed { IfOk result (λ reader. Self.Reader.failures reader ≡ 0) }
         ensures missing { IfErr result (IsUnopened (files self.now) path.now) };
 
-    /// Creates or empties the file at the path, to write it from its start.
-    fn create<'p>(&self, alloc: Global, path: &'p str) -> io::Result<Created<'p, Self::Writer>>
+    /// Creates or empties the file at the path, to write it from its start. If that fails, the file
+    /// is unchanged or empty. No other file changes.
+    fn create<'p>(&mut self, alloc: Global, path: &'p str) -> io::Result<Created<'p, Self::Writer>>
         ensures path { IfOk result (λ created. created.path.now ≡ path.entry.now) }
         ensures new { IfOk result (λ created.
-            IsNew (files self.now) (Self.Writer.contents created.writer)) };
+            IsNew (files self.new) (Self.Writer.contents created.writer)) }
+        ensures emptied { IfOk result (λ _.
+            Puts path.entry.now (Some []) (files self.old) (files self.new)) }
+        ensures failed { OnErr result
+            (MayEmpty path.entry.now (files self.old) (files self.new)) };
 
     /// Closes the file, which contains what its writer wrote. If out of memory for that, no file
     /// changes.
