@@ -20,5 +20,5 @@ pub MayEmpty-prop : (path : FileName) (before after : Option Files) → IsProp (
 MayEmpty-prop path before after =
     Turns-prop before after _ (λ old new. ×_prop (→_prop (≡-prop _ _)) (Π_prop (λ other. →_prop (≡-prop _ _))))
 
-pub IsUntouched-prop : {P Q : Type 0} (before after : Option Files) → IsProp (P → Q → SameFiles before after)
-IsUntouched-prop before after = →_prop (→_prop (SameFiles-prop before after))
+pub same-prop : {P Q : Type 0} (before after : Option Files) → IsProp (P → Q → SameFiles before after)
+same-prop before after = →_prop (→_prop (SameFiles-prop before after))

@@ -85,6 +85,10 @@ is_begun (Some at) (Some None) = false
 is_begun (Some at) (Some (Some [])) = false
 is_begun (Some at) (Some (Some (octet ∷ octets))) = true
 
+-- no file is changed if this one was not created and no write failed
+abbrev pub IsUntouched : {A : Type 0} → Option A → ℕ → Option Files → Option Files → Type 0
+IsUntouched created failures before after = created ≡ None → failures ≡ 0 → SameFiles before after
+
 -- What is sent to a file that is created at its first write: the output for the bytes, or the
 -- prefix that the refusal states. Until it is closed its file is what it was or empty. If nothing
 -- was written and no write failed, no file is changed.
@@ -93,4 +97,4 @@ pub record Creates (form : Form) (octets : List ℕ) (path : FileName) (before a
   pub writes : Writes form octets (held_by before None) (held_by before contents) 0 failures result
   pub begun : is_begun before contents ≡ true
   pub emptied : MayEmpty path before after
-  pub untouched : contents ≡ None → failures ≡ 0 → SameFiles before after
+  pub untouched : IsUntouched contents failures before after

@@ -3,9 +3,10 @@ ghost use Rattle.std.specs.Prelude.{◌≡◌, ◌<◌, ◌≤◌, None, Option,
 ghost use Rattle.std.specs.Prelude.{IfOk, take};
 ghost use Rattle.std.specs.Option.{ForSome};
 ghost use Rattle.std.specs.Io.KnownBytes.{WriteAppends};
-ghost use Rattle.plist_convert.specs.Files.{FileName, Files, SameFiles};
-ghost use Rattle.plist_convert.specs.Opens.{HasWritten, MayEmpty, held_by, is_begun, written_of};
-ghost use Rattle.plist_convert.specs.OneProof.{IsUntouched-prop, MayEmpty-prop};
+ghost use Rattle.plist_convert.specs.Files.{FileName, Files};
+ghost use Rattle.plist_convert.specs.Opens.{HasWritten, IsUntouched, MayEmpty, held_by};
+ghost use Rattle.plist_convert.specs.Opens.{is_begun, written_of};
+ghost use Rattle.plist_convert.specs.OneProof.{MayEmpty-prop, same-prop};
 
 use crate::opens::{Created, Opens};
 use plist_devices::{DeviceFault, Sink};
@@ -49,8 +50,8 @@ pub(crate) struct CreatedFile<'o, 'p, O: Opens, K: Place> {
     ghost known: { path.now ≡ K.path },
     ghost placed: { ForSome created (λ created. created.path.now ≡ K.path) },
     ghost begun: { is_begun K.files (option_map (written_of O.Writer.contents) created) ≡ true },
-    ghost emptied: { MayEmpty K.path K.files (O.files opener.now) } by { MayEmpty-prop K.path K.files (O.files opener.now) },
-    ghost untouched: { created ≡ None → failures ≡ 0 → SameFiles K.files (O.files opener.now) } by { IsUntouched-prop K.files (O.files opener.now) },
+    ghost emptied: { MayEmpty K.path K.files (O.files opener.now) } by { MayEmpty-prop _ _ _ },
+    ghost same: { IsUntouched created failures K.files (O.files opener.now) } by { same-prop _ _ },
 }
 
 impl<'o, 'p, O: Opens, K: Place> CreatedFile<'o, 'p, O, K> {

@@ -6,4 +6,4 @@ pub returns-clause-creates : goal.returns-clause-creates
 returns-clause-creates g c =
     let file = c.convert_octets-sent.new.to in
     created g.O.Writer.Write.contents _ _ _ _ _ _ _ _ _ file.created _ _ _ c.requires.files c.requires.path (search rules)
-    c.new-file.ensures.created c.new-file.ensures.failures c.convert_octets-sent.ensures.writes file.begun file.emptied file.untouched
+    c.new-file.ensures.created c.new-file.ensures.failures c.convert_octets-sent.ensures.writes file.begun file.emptied file.same
