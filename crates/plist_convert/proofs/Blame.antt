@@ -1,6 +1,6 @@
 -- The exit status is 4 only if a device failed.
-use Rattle.std.proofs.Common.{arith, inl, inr, sym, Err, List, None, Ok, Option, Result, Some, ℕ, ◌∙◌, ◌≡◌, ◌⊎◌}
-use Rattle.std.specs.Prelude.{◌≢◌, ◌<◌, ◌≤◌, Bool, true, false}
+use Rattle.std.proofs.Common.{arith, inl, inr, sym, Err, List, [], ◌∷◌, None, Ok, Option, Result, Some, ℕ, ◌∙◌, ◌≡◌, ◌⊎◌}
+use Rattle.std.specs.Prelude.{◌≢◌, ◌<◌, ◌≤◌, Bool, true, false, length, max, nat_lt}
 use Rattle.std.proofs.lemmas.Bool.{cases_lt}
 use Rattle.clap.specs.Words.{Text}
 use Rattle.clap.specs.declared.error.ErrorKind.{ErrorKind}
@@ -20,7 +20,7 @@ use Rattle.plist_canon.specs.declared.checking.Verdict.TheVariants as verdict
 use Rattle.plist_forms.specs.Fault.{check_fault_for, code_of, status_for, write_fault_for}
 use Rattle.plist_forms.specs.Refusals.{FaultStands}
 use Rattle.plist_forms.specs.declared.faults.Fault.{Fault}
-use Rattle.plist_forms.specs.declared.faults.Fault.TheVariants.{Binary, Text as OfText, NotInOpenStep, ReadFailed, WriteFailed, InputTooLarge, OutOfMemory}
+use Rattle.plist_forms.specs.declared.faults.Fault.TheVariants.{Binary, Text as OfText, ReadFailed, InputTooLarge, OutOfMemory}
 use Rattle.plist_forms.specs.declared.pairs.PairFault.{PairFault}
 use Rattle.plist_forms.specs.declared.pairs.PairFault.TheVariants.{First, Second}
 use Rattle.plist_forms.specs.Pair.{IsRefusedPair}
@@ -28,17 +28,18 @@ use Rattle.plist_engine.specs.Sending.{IsWritten}
 use Rattle.plist_engine.specs.declared.faults.WriteFault.{WriteFault}
 use Rattle.plist_engine.specs.declared.faults.WriteFault.TheVariants as write
 use Rattle.plist_forms.specs.Output.{IsOutputFault}
-use Rattle.plist_convert.specs.Files.{FileName, IsStored, IsUnloaded}
+use Rattle.plist_convert.specs.Files.{FileName, Files, IsStored, IsUnloaded}
 use Rattle.plist_convert.specs.Asked.{Asked, Filters, Converts, Compares, Lints, Checks}
 use Rattle.plist_convert.specs.Asked as asked
 use Rattle.plist_forms.specs.declared.forms.Form.{Form}
-use Rattle.plist_convert.specs.Answer.{IsCheckAnswer, IsLintAnswer, IsOutputRefusal, IsRefusedAnswer, IsSameAnswer, Said, Says, equality_said, explained_said, explanation_said, pair_refusal, refusal}
+use Rattle.plist_convert.specs.Answer.{IsCheckAnswerOf, IsLintAnswer, IsOutputRefusal, IsRefusedAnswer, IsSameAnswer, Said, Says, equality_said, explained_said, explanation_said, pair_refusal, refusal}
 use Rattle.plist_convert.specs.Ending.{Ends, HaveFailed, Prints, no_memory}
 use Rattle.plist_convert.specs.Explaining.{Explains, said_of_kind, status_of_kind}
 use Rattle.plist_convert.specs.Program.{DeviceFailed, IsAskedRun, IsRun}
-use Rattle.plist_convert.specs.Runs.{EndsSending, IsAnswered, IsCheckRun, IsConvertRun, IsExplainRun, IsFileRun, IsFiltered, IsFilterRun, IsInputFault, IsLintRun, IsPrintRun, IsSameRun, IsUnread, IsWanting, refusal_between, standard}
+use Rattle.plist_convert.specs.Runs.{EndsSending, IsAnswered, IsCheckRun, IsChecked, IsConvertRun, IsExplainRun, IsFileRun, IsFiltered, IsFilterRun, IsInputFault, IsLinted, IsLintRun, IsPrintRun, IsRunOfEach, IsSameRun, IsUnread, IsWanting, refusal_between, standard}
 use Rattle.plist_convert.specs.State.{Ending, Input, State}
 use Rattle.plist_convert.specs.Verdicts.{verdict_status_for}
+use Rattle.plist_convert.proofs.Each.{Single}
 
 -- numbers that are not 4
 no_0 : ◌≢◌ {A = ℕ} 0 4
@@ -88,9 +89,9 @@ check_fault_quiet : (fault : CheckFault) → status_for (code_of (check_fault_fo
 check_fault_quiet check.OutOfMemory = no_5
 check_fault_quiet _ = no_2
 
-check_quiet : (path octets : List ℕ) (s : Said) → IsCheckAnswer path octets s → s.status ≢ 4
-check_quiet path octets s (inl judged) = says_quiet s _ judged.says (verdict_quiet judged.verdict)
-check_quiet path octets s (inr unchecked) = says_quiet s _ unchecked.says (check_fault_quiet unchecked.fault)
+check_quiet : (several : Bool) (path octets : List ℕ) (s : Said) → IsCheckAnswerOf several path octets s → s.status ≢ 4
+check_quiet several path octets s (inl judged) = says_quiet s _ judged.says (verdict_quiet judged.verdict)
+check_quiet several path octets s (inr unchecked) = says_quiet s _ unchecked.says (check_fault_quiet unchecked.fault)
 
 lint_quiet : (path octets : List ℕ) (s : Said) → IsLintAnswer path octets s → s.status ≢ 4
 lint_quiet path octets s (inl accepted) = says_quiet s _ accepted.says no_0
@@ -181,13 +182,117 @@ file_blamed Answers path before after status quiet (inl unread) four = unread_bl
 file_blamed Answers path before after status quiet (inr (inl answered)) four = answered_blamed Answers path before after status quiet answered four
 file_blamed Answers path before after status quiet (inr (inr wanting)) four = wanting_blamed before after status wanting four
 
-check_blamed : (path : FileName) (before after : State) (status : ℕ) → IsCheckRun path before after status → status ≡ 4 → Failed before after
-unfolding IsCheckRun
-check_blamed path before after status run four = file_blamed (IsCheckAnswer path) path before after status (check_quiet path) run four
+checked_blamed : (several : Bool) (path : FileName) (before after : State) (status : ℕ) → IsChecked several path before after status → status ≡ 4 → Failed before after
+unfolding IsChecked
+checked_blamed several path before after status run four = file_blamed (IsCheckAnswerOf several path) path before after status (check_quiet several path) run four
 
-lint_blamed : (path : FileName) (before after : State) (status : ℕ) → IsLintRun path before after status → status ≡ 4 → Failed before after
+linted_blamed : (path : FileName) (before after : State) (status : ℕ) → IsLinted path before after status → status ≡ 4 → Failed before after
+unfolding IsLinted
+linted_blamed path before after status run four = file_blamed (IsLintAnswer path) path before after status (lint_quiet path) run four
+
+-- a run for each of several paths
+
+-- a count is kept, or rises once
+abbrev Counts : ℕ → ℕ → Type 0
+Counts before after = (after ≡ before) ⊎ (after ≡ one_more before)
+
+abbrev BothCount : State → State → Type 0
+BothCount before after = Counts before.disk_failures after.disk_failures × Counts before.print_failures after.print_failures
+
+prints_count : (old new : Option (List ℕ)) (before after : ℕ) (s : Said) (status : ℕ) → Prints old new before after s status → Counts before after
+prints_count old new before after s status (inl usual) = inl usual.2
+prints_count old new before after s status (inr failed) = inr failed.2
+
+ends_count : (old new : Option (List ℕ)) (before after : ℕ) (s : Said) (status : ℕ) → Ends old new before after s status → Counts before after
+ends_count old new before after s status (inl usual) = prints_count old new before after s status usual
+ends_count old new before after s status (inr memory) = prints_count old new before after no_memory status memory
+
+unloaded_counts : (files : Option Files) (path : FileName) (before after : ℕ) (fault : Fault) → IsUnloaded files path before after fault → Counts before after
+unloaded_counts files path before after ReadFailed cause = inr cause.1
+unloaded_counts files path before after InputTooLarge cause = inl cause.1
+unloaded_counts files path before after (OutOfMemory sent) cause = inl cause.1
+unloaded_counts files path before after _ cause = absurd cause
+
+file_counts : (Answers : List ℕ → Said → Type 0) (path : FileName) (before after : State) (status : ℕ) → IsFileRun Answers path before after status → BothCount before after
+file_counts Answers path before after status (inl unread) =
+    (unloaded_counts before.files path _ _ unread.fault unread.cause, ends_count _ _ _ _ (refusal path unread.fault) status unread.ends)
+file_counts Answers path before after status (inr (inl answered)) = (inl answered.unfailed, ends_count _ _ _ _ answered.said status answered.ends)
+file_counts Answers path before after status (inr (inr wanting)) = (inl wanting.unfailed, prints_count _ _ _ _ no_memory status wanting.ends)
+
+-- a failure is still counted after another step
+failed_after : (before middle after : ℕ) → Counts middle after → HaveFailed before middle → HaveFailed before after
+failed_after before middle after (inl same) (inl more) = inl (omega (arith, same, more))
+failed_after before middle after (inl same) (inr top) = inr (omega (arith, same, top))
+failed_after before middle after (inr once) (inr top) = inr (omega (arith, once, top))
+failed_after before middle after (inr once) (inl more) = elim (cases_lt middle 18446744073709551615) [
+  | inl below ↦ inl (omega (arith, once, more, below))
+  | inr top ↦ inr (omega (arith, once, top))
+]
+
+-- a failure is counted from an earlier step on
+failed_since : (before middle after : ℕ) → Counts before middle → HaveFailed middle after → HaveFailed before after
+failed_since before middle after counts (inr top) = inr top
+failed_since before middle after (inl same) (inl more) = inl (omega (arith, same, more))
+failed_since before middle after (inr once) (inl more) = elim (cases_lt before 18446744073709551615) [
+  | inl below ↦ inl (omega (arith, once, more, below))
+  | inr top ↦ inr (omega (arith, once, more, top))
+]
+
+both_after : (before middle after : State) → BothCount middle after → Failed before middle → Failed before after
+both_after before middle after counts (inl disk) = inl (failed_after _ _ _ counts.0 disk)
+both_after before middle after counts (inr print) = inr (failed_after _ _ _ counts.1 print)
+
+both_since : (before middle after : State) → BothCount before middle → Failed middle after → Failed before after
+both_since before middle after counts (inl disk) = inl (failed_since _ _ _ counts.0 disk)
+both_since before middle after counts (inr print) = inr (failed_since _ _ _ counts.1 print)
+
+-- of a relation for one path: both counts are kept or rise once
+abbrev AllCount : Single → Type 0
+AllCount One = (path : FileName) (before after : State) (status : ℕ) → One path before after status → BothCount before after
+
+each_after : (One : Single) (paths : List FileName) (before middle after : State) (status : ℕ) → AllCount One → Failed before middle
+    → IsRunOfEach One paths middle after status → Failed before after
+unfolding IsRunOfEach
+each_after One [] before middle after status counts failed run = rw run.0 failed
+each_after One (path ∷ rest) before middle after status counts failed (inl cut) = both_after before middle after (counts path middle after status cut.0) failed
+each_after One (path ∷ rest) before middle after status counts failed (inr run) =
+    each_after One rest before run.middle after run.last counts (both_after before middle run.middle (counts path middle run.middle run.first run.done) failed) run.others
+
+greatest_four : (a b : ℕ) → max a b ≡ 4 → (a ≡ 4) ⊎ (b ≡ 4)
+greatest_four a b four = elim (cases_lt a 4) [
+  | inl less ↦ inr (omega (arith, less, four))
+  | inr most ↦ inl (omega (arith, most, four))
+]
+
+each_blamed : (One : Single) (paths : List FileName) (before after : State) (status : ℕ) → AllCount One
+    → ((path : FileName) (b a : State) (s : ℕ) → One path b a s → s ≡ 4 → Failed b a)
+    → IsRunOfEach One paths before after status → status ≡ 4 → Failed before after
+unfolding IsRunOfEach
+each_blamed One [] before after status counts blames run four = absurd (no_0 (sym run.1 ∙ four))
+each_blamed One (path ∷ rest) before after status counts blames (inl cut) four = inr cut.1
+each_blamed One (path ∷ rest) before after status counts blames (inr run) four = elim (greatest_four run.first run.last (sym run.greatest ∙ four)) [
+  | inl first ↦ each_after One rest before run.middle after run.last counts (blames path before run.middle run.first run.done first) run.others
+  | inr last ↦ both_since before run.middle after (counts path before run.middle run.first run.done)
+      (each_blamed One rest run.middle after run.last counts blames run.others last)
+]
+
+checked_count : (several : Bool) → AllCount (IsChecked several)
+unfolding IsChecked
+checked_count several path before after status run = file_counts (IsCheckAnswerOf several path) path before after status run
+
+linted_count : AllCount IsLinted
+unfolding IsLinted
+linted_count path before after status run = file_counts (IsLintAnswer path) path before after status run
+
+check_blamed : (paths : List FileName) (before after : State) (status : ℕ) → IsCheckRun paths before after status → status ≡ 4 → Failed before after
+unfolding IsCheckRun
+check_blamed paths before after status run four =
+    let several = nat_lt 1 (length paths) in
+    each_blamed (IsChecked several) paths before after status (checked_count several) (checked_blamed several) run four
+
+lint_blamed : (paths : List FileName) (before after : State) (status : ℕ) → IsLintRun paths before after status → status ≡ 4 → Failed before after
 unfolding IsLintRun
-lint_blamed path before after status run four = file_blamed (IsLintAnswer path) path before after status (lint_quiet path) run four
+lint_blamed paths before after status run four = each_blamed IsLinted paths before after status linted_count linted_blamed run four
 
 same_blamed : (first second : FileName) (before after : State) (status : ℕ) → IsSameRun first second before after status → status ≡ 4 → Failed before after
 unfolding IsSameRun
@@ -283,8 +388,8 @@ unfolding IsAskedRun
 asked_blamed Filters input rest before after status run four = filter_blamed input rest before after status run.1 four
 asked_blamed (Converts form from to) input rest before after status run four = inr (convert_blamed form from to before after status run.1 four)
 asked_blamed (Compares first second) input rest before after status run four = inr (same_blamed first second before after status run.1 four)
-asked_blamed (Lints path) input rest before after status run four = inr (lint_blamed path before after status run.1 four)
-asked_blamed (Checks path) input rest before after status run four = inr (check_blamed path before after status run.1 four)
+asked_blamed (Lints paths) input rest before after status run four = inr (lint_blamed paths before after status run.1 four)
+asked_blamed (Checks paths) input rest before after status run four = inr (check_blamed paths before after status run.1 four)
 asked_blamed (asked.Prints path) input rest before after status run four = inr (print_blamed path before after status run.1 four)
 asked_blamed (asked.Explains what) input rest before after status run four = inr (explain_blamed what before after status run.1.1 four)
 

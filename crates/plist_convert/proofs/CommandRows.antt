@@ -4,7 +4,7 @@ use Rattle.std.specs.Borrow.{Bor}
 use Rattle.clap.specs.Words.{Kinds, Text, fault_of, subcommand_of}
 use Rattle.clap.proofs.OnLiterals.{clap_on_literals}
 use Rattle.clap.specs.declared.error.ErrorKind.TheVariants as kind
-use Rattle.plist_convert.specs.Asked.{Asked, Checks, Compares, Converts, Explains, asked_at}
+use Rattle.plist_convert.specs.Asked.{Asked, Checks, Compares, Converts, Explains, Lints, asked_at}
 use Rattle.plist_convert.specs.CommandLine.{NamesForms, program}
 use Rattle.plist_convert.specs.Reading.{IsParse}
 use Rattle.plist_forms.specs.declared.forms.Form.TheVariants.{Binary1}
@@ -82,9 +82,21 @@ compares : AsksFor (codes "plistconv" ∷ (codes "same" ∷ (codes "a" ∷ (code
 unfolding clap_on_literals
 compares = asks _ _ (λ p q r. refl) (λ p q r. refl)
 
-a-path-behind-two-lines : AsksFor (codes "plistconv" ∷ (codes "check" ∷ (codes "--" ∷ (codes "-x" ∷ [])))) (Checks (codes "-x"))
+a-path-behind-two-lines : AsksFor (codes "plistconv" ∷ (codes "check" ∷ (codes "--" ∷ (codes "-x" ∷ [])))) (Checks (codes "-x" ∷ []))
 unfolding clap_on_literals
 a-path-behind-two-lines = asks _ _ (λ p q r. refl) (λ p q r. refl)
+
+paths-in-order : AsksFor (codes "plistconv" ∷ (codes "lint" ∷ (codes "b" ∷ (codes "a" ∷ (codes "b" ∷ []))))) (Lints (codes "b" ∷ (codes "a" ∷ (codes "b" ∷ []))))
+unfolding clap_on_literals
+paths-in-order = asks _ _ (λ p q r. refl) (λ p q r. refl)
+
+paths-before-and-behind-two-lines : AsksFor (codes "plistconv" ∷ (codes "check" ∷ (codes "a" ∷ (codes "--" ∷ (codes "-b" ∷ (codes "--" ∷ [])))))) (Checks (codes "a" ∷ (codes "-b" ∷ (codes "--" ∷ []))))
+unfolding clap_on_literals
+paths-before-and-behind-two-lines = asks _ _ (λ p q r. refl) (λ p q r. refl)
+
+no-path : FailsAs (codes "plistconv" ∷ (codes "check" ∷ [])) (kind.MissingRequiredArgument ∷ [])
+unfolding clap_on_literals
+no-path = fails _ _ (λ p q r. refl)
 
 a-number-explained : AsksFor (codes "plistconv" ∷ (codes "explain" ∷ (codes "14" ∷ []))) (Explains (Some (codes "14")))
 unfolding clap_on_literals

@@ -1,6 +1,7 @@
 pub mod Begun
 pub mod Blame
 pub mod Conversions
+pub mod Each
 pub mod FilesBefore
 pub mod Judged
 pub mod Prints

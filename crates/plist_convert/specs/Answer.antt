@@ -1,5 +1,5 @@
 -- The results for bytes that were loaded: the printed text and the exit status.
-use Rattle.std.specs.Prelude.{◌≡◌, ◌↔◌, ◌⊎◌, ◌++◌, ℕ, Bool, List, Option, Some, None, codes, if◌then◌else◌, string_bytes}
+use Rattle.std.specs.Prelude.{◌≡◌, ◌↔◌, ◌⊎◌, ◌++◌, ℕ, Bool, false, List, Option, Some, None, codes, if◌then◌else◌, string_bytes}
 use Rattle.plist_value.specs.Plist.{Plist}
 use Rattle.plist_object.specs.Layout.{IsLaid}
 use Rattle.plist_canon.specs.Checking.{IsCheckFault, IsVerdict}
@@ -19,7 +19,7 @@ use Rattle.plist_forms.specs.declared.forms.Form.{Form}
 use Rattle.plist_forms.specs.declared.pairs.PairFault.{PairFault}
 use Rattle.plist_forms.specs.declared.pairs.PairFault.TheVariants.{First, Second}
 use Rattle.plist_forms.specs.Output.{IsOutputFault}
-use Rattle.plist_convert.specs.Verdicts.{verdict_status_for, verdict_text}
+use Rattle.plist_convert.specs.Verdicts.{verdict_line_of, verdict_status_for}
 use Rattle.plist_convert.specs.declared.answers.Answer.{Answer}
 
 -- a printed text and the exit status
@@ -39,8 +39,9 @@ said line status = record { text = line ++ codes "\n"; status = status }
 abbrev pub refusal : List ℕ → Fault → Said
 refusal path fault = said (line_of path fault) (status_for (code_of fault))
 
-abbrev pub verdict_said : Verdict → Said
-verdict_said verdict = said (verdict_text verdict) (verdict_status_for verdict)
+abbrev pub verdict_said : (several : Bool) → List ℕ → Verdict → Said
+verdict_said several path verdict =
+    said (verdict_line_of several path verdict) (verdict_status_for verdict)
 
 abbrev pub accepted_said : List ℕ → Said
 accepted_said path = said (path ++ codes ": OK") 0
@@ -72,12 +73,12 @@ abbrev pub Says : Said → Said → Type 0
 Says s t = (s.text ≡ t.text) × (s.status ≡ t.status)
 
 -- the line of the verdict that is true of the bytes
-pub record IsJudged (octets : List ℕ) (s : Said) : Type 0 where
+pub record IsJudged (several : Bool) (path octets : List ℕ) (s : Said) : Type 0 where
   pub verdict : Verdict
   pub laid : IsLaid octets
   pub stands : IsVerdict octets verdict
   pub canonical : (verdict ≡ Canonical) ↔ IsCanonical octets
-  pub says : Says s (verdict_said verdict)
+  pub says : Says s (verdict_said several path verdict)
 
 -- the line of a fault of the layout, or out of memory
 pub record IsUnchecked (octets path : List ℕ) (s : Said) : Type 0 where
@@ -85,9 +86,13 @@ pub record IsUnchecked (octets path : List ℕ) (s : Said) : Type 0 where
   pub stands : IsCheckFault octets fault
   pub says : Says s (refusal path (check_fault_for fault))
 
--- the result of `check`
+-- the result of `check` for a file, alone or as one of several
+abbrev pub IsCheckAnswerOf : (several : Bool) → List ℕ → List ℕ → Said → Type 0
+IsCheckAnswerOf several path octets s = IsJudged several path octets s ⊎ IsUnchecked octets path s
+
+-- the result of `check` for one file
 abbrev pub IsCheckAnswer : List ℕ → List ℕ → Said → Type 0
-IsCheckAnswer path octets s = IsJudged octets s ⊎ IsUnchecked octets path s
+IsCheckAnswer = IsCheckAnswerOf false
 
 -- the line of a refusal of the bytes
 pub record IsRefusedAnswer (path octets : List ℕ) (s : Said) : Type 0 where

@@ -1,7 +1,7 @@
 -- The request of a command line, by the command and its arguments.
-use Rattle.std.specs.Prelude.{List, Option, Some, None, codes, option_and_then, option_map, if◌then◌else◌}
+use Rattle.std.specs.Prelude.{List, Option, Some, None, codes, map, option_and_then, option_map, if◌then◌else◌}
 use Rattle.std.specs.Str.{bytes_eq}
-use Rattle.clap.specs.Words.{Row, Text, first_of}
+use Rattle.clap.specs.Words.{Row, Text, all_of, first_of}
 use Rattle.plist_forms.specs.declared.forms.Form.{Form}
 use Rattle.plist_forms.specs.declared.forms.Form.TheVariants.{Binary1, OpenStep}
 use Rattle.plist_convert.specs.declared.request.Request.{Request}
@@ -12,8 +12,8 @@ pub data Asked : Type 0 where
   Filters : Asked
   Converts : Form → Text → Text → Asked
   Compares : Text → Text → Asked
-  Lints : Text → Asked
-  Checks : Text → Asked
+  Lints : List Text → Asked
+  Checks : List Text → Asked
   Prints : Text → Asked
   Explains : Option Text → Asked
 
@@ -22,8 +22,8 @@ abbrev pub asked_by : Request → Asked
 asked_by request.Filter = Filters
 asked_by (request.Convert form from to) = Converts form from.now to.now
 asked_by (request.Same first second) = Compares first.now second.now
-asked_by (request.Lint path) = Lints path.now
-asked_by (request.Check path) = Checks path.now
+asked_by (request.Lint paths) = Lints (map (λ path. path.now) paths.items)
+asked_by (request.Check paths) = Checks (map (λ path. path.now) paths.items)
 asked_by (request.Print path) = Prints path.now
 asked_by (request.Explain what) = Explains (option_map (λ word. word.now) what)
 
@@ -52,10 +52,10 @@ abbrev pub same_at : List Row → Option Asked
 same_at rows = compares (first_of (codes "A") rows) (first_of (codes "B") rows)
 
 abbrev pub lint_at : List Row → Option Asked
-lint_at rows = option_map Lints (first_of (codes "IN") rows)
+lint_at rows = option_map Lints (all_of (codes "IN") rows)
 
 abbrev pub check_at : List Row → Option Asked
-check_at rows = option_map Checks (first_of (codes "IN") rows)
+check_at rows = option_map Checks (all_of (codes "IN") rows)
 
 abbrev pub print_at : List Row → Option Asked
 print_at rows = option_map Prints (first_of (codes "IN") rows)

@@ -1,6 +1,7 @@
 -- The command line of the program.
 use Rattle.std.specs.Prelude.{◌≡◌, List, [], ◌∷◌, Some, true, codes, map}
 use Rattle.std.specs.Borrow.{Bor}
+use Rattle.clap.specs.Lexer.{usize_max}
 use Rattle.clap.specs.Words.{App, Rule, Text, new_app, new_rule, with_rule, with_subcommand}
 use Rattle.clap.specs.declared.builder.ValueParser.TheVariants.{Names}
 
@@ -8,9 +9,18 @@ use Rattle.clap.specs.declared.builder.ValueParser.TheVariants.{Names}
 abbrev pub file_word : Text → Rule
 file_word id = record (new_rule id) { required = true }
 
--- a command with one file, such as `lint IN`
+-- a required argument with one value or more
+abbrev pub file_words : Text → Rule
+file_words id =
+    record (file_word id) { range = Some (record { start_inclusive = 1; end_inclusive = usize_max }) }
+
+-- a command with one file, such as `print IN`
 abbrev pub one_file : Text → App
 one_file name = with_rule (new_app name) (file_word (codes "IN"))
+
+-- a command with one file or more, such as `lint IN..`
+abbrev pub some_files : Text → App
+some_files name = with_rule (new_app name) (file_words (codes "IN"))
 
 -- `same A B`
 abbrev pub same : App
@@ -36,8 +46,8 @@ program_top =
 abbrev pub program : Bor (List (Bor Text)) → App
 program forms =
     with_subcommand (with_subcommand (with_subcommand (with_subcommand (with_subcommand (with_subcommand
-    program_top (convert forms).top) same.top) (one_file (codes "lint")).top)
-    (one_file (codes "check")).top) (one_file (codes "print")).top) explain.top
+    program_top (convert forms).top) same.top) (some_files (codes "lint")).top)
+    (some_files (codes "check")).top) (one_file (codes "print")).top) explain.top
 
 -- the names of the forms, borrowed from anywhere
 abbrev pub NamesForms : Bor (List (Bor Text)) → Type 0

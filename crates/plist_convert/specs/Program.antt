@@ -20,10 +20,10 @@ IsAskedRun (Converts form from to) input rest before after status =
     (rest ≡ input) × IsConvertRun form from to before after status
 IsAskedRun (Compares first second) input rest before after status =
     (rest ≡ input) × IsSameRun first second before after status
-IsAskedRun (Lints path) input rest before after status =
-    (rest ≡ input) × IsLintRun path before after status
-IsAskedRun (Checks path) input rest before after status =
-    (rest ≡ input) × IsCheckRun path before after status
+IsAskedRun (Lints paths) input rest before after status =
+    (rest ≡ input) × IsLintRun paths before after status
+IsAskedRun (Checks paths) input rest before after status =
+    (rest ≡ input) × IsCheckRun paths before after status
 IsAskedRun (Prints path) input rest before after status =
     (rest ≡ input) × IsPrintRun path before after status
 IsAskedRun (Explains what) input rest before after status =

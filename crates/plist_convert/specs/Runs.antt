@@ -1,5 +1,5 @@
 -- What each command does, as a relation between the states before and after.
-use Rattle.std.specs.Prelude.{◌≡◌, ◌⊎◌, ℕ, ◌<◌, List, length, Option, Result, MatchResult, codes}
+use Rattle.std.specs.Prelude.{◌≡◌, ◌⊎◌, ℕ, ◌<◌, Bool, List, [], ◌∷◌, length, max, nat_lt, Option, Result, MatchResult, codes}
 use Rattle.plist_devices.specs.Count.{one_more}
 use Rattle.plist_forms.specs.Accepted.{IsCanonicalOf}
 use Rattle.plist_forms.specs.Fault.{write_fault_for}
@@ -15,8 +15,8 @@ use Rattle.plist_engine.specs.declared.faults.WriteFault.{WriteFault}
 use Rattle.plist_forms.specs.Output.{IsOutput}
 use Rattle.plist_forms.specs.Transfer.{IsInput}
 use Rattle.plist_convert.specs.Files.{FileName, Holds, IsStored, IsUnloaded, SameFiles}
-use Rattle.plist_convert.specs.Answer.{IsCheckAnswer, IsLintAnswer, IsOutputRefusal, IsRefusedAnswer, IsSameAnswer, Said, explained_said, refusal}
-use Rattle.plist_convert.specs.Ending.{Ends}
+use Rattle.plist_convert.specs.Answer.{IsCheckAnswerOf, IsLintAnswer, IsOutputRefusal, IsRefusedAnswer, IsSameAnswer, Said, explained_said, refusal}
+use Rattle.plist_convert.specs.Ending.{Ends, HaveFailed}
 use Rattle.plist_convert.specs.State.{Ending, Input, State, Wanting}
 
 -- The file at the path is not loaded, and the line of that refusal is printed.
@@ -47,13 +47,40 @@ abbrev pub IsFileRun : (List ℕ → Said → Type 0) → FileName → State →
 IsFileRun Answers path before after status =
     IsUnread path before after status ⊎ (IsAnswered Answers path before after status ⊎ IsWanting before after status)
 
--- `check IN`
-unfoldable pub IsCheckRun : FileName → State → State → ℕ → Type 0
-IsCheckRun path = IsFileRun (IsCheckAnswer path) path
+-- The line of one path is printed, and then those of others. The status is the greater.
+pub record IsFollowed (One Others : State → State → ℕ → Type 0) (before after : State) (status : ℕ) : Type 0 where
+  pub middle : State
+  pub first : ℕ
+  pub last : ℕ
+  pub done : One before middle first
+  pub printed : HaveFailed before.print_failures middle.print_failures → ⊥
+  pub others : Others middle after last
+  pub greatest : status ≡ max first last
 
--- `lint IN`
-unfoldable pub IsLintRun : FileName → State → State → ℕ → Type 0
-IsLintRun path = IsFileRun (IsLintAnswer path) path
+-- A run for each path, in the order given. The lines are those of the single runs, one after
+-- another, and the status is the greatest of theirs. The first path whose line cannot be printed is
+-- the last.
+unfoldable pub IsRunOfEach : (FileName → State → State → ℕ → Type 0) → List FileName → State → State → ℕ → Type 0
+IsRunOfEach One [] before after status = (after ≡ before) × (status ≡ 0)
+IsRunOfEach One (path ∷ rest) before after status =
+    (One path before after status × HaveFailed before.print_failures after.print_failures)
+    ⊎ IsFollowed (One path) (IsRunOfEach One rest) before after status
+
+-- `check` for one path, which is alone or one of several
+unfoldable pub IsChecked : (several : Bool) → FileName → State → State → ℕ → Type 0
+IsChecked several path = IsFileRun (IsCheckAnswerOf several path) path
+
+-- `check IN..`
+unfoldable pub IsCheckRun : List FileName → State → State → ℕ → Type 0
+IsCheckRun paths = IsRunOfEach (IsChecked (nat_lt 1 (length paths))) paths
+
+-- `lint` for one path
+unfoldable pub IsLinted : FileName → State → State → ℕ → Type 0
+IsLinted path = IsFileRun (IsLintAnswer path) path
+
+-- `lint IN..`
+unfoldable pub IsLintRun : List FileName → State → State → ℕ → Type 0
+IsLintRun = IsRunOfEach IsLinted
 
 -- The first file is loaded, and the second is not.
 pub record IsSecondUnread (first second : FileName) (before after : State) (status : ℕ) : Type 0 where

@@ -1,10 +1,11 @@
 //! The result of each command for bytes that were loaded.
 ghost use Rattle.std.specs.Prelude.{◌≡◌, ◌++◌, IfOk, codes, option_map, string_bytes};
-ghost use Rattle.plist_convert.specs.Answer.{IsCheckAnswer, IsLintAnswer, IsSameAnswer, Says};
+ghost use Rattle.plist_convert.specs.Answer.{IsCheckAnswer, IsCheckAnswerOf, IsLintAnswer};
+ghost use Rattle.plist_convert.specs.Answer.{IsSameAnswer, Says};
 ghost use Rattle.plist_convert.specs.Answer.{accepted_said, equality_said, explained_said};
 ghost use Rattle.plist_convert.specs.Answer.{refusal, said_of, word_said};
 
-use crate::verdicts::{verdict_line, verdict_status};
+use crate::verdicts::{verdict_line_of, verdict_status};
 use plist_canon::check_with_hasher;
 use plist_explain::{explanation, list};
 use plist_forms::{Fault, PairFault, Status, judge_any, line, same_files_with_hasher};
@@ -38,9 +39,28 @@ pub fn check_answer<H: BuildHasher + Copy>(
 ) -> Result<Answer, AllocError>
     ensures { IfOk result (λ answer. IsCheckAnswer path.now octets.now (said_of answer)) }
 {
+    check_answer_of(alloc, hasher, false, path, octets)
+}
+
+/// Like [`check_answer`], but if the file is one of several, the line of a verdict has its path, such
+/// as `PATH: canonical`.
+///
+/// # Errors
+///
+/// [`AllocError`] if out of memory for the line.
+pub fn check_answer_of<H: BuildHasher + Copy>(
+    alloc: Global,
+    hasher: H,
+    several: bool,
+    path: &str,
+    octets: &[u8],
+) -> Result<Answer, AllocError>
+    ensures { IfOk result (λ answer.
+        IsCheckAnswerOf several path.now octets.now (said_of answer)) }
+{
     match check_with_hasher(alloc, hasher, octets) {
         Ok(verdict) => {
-            let line = verdict_line(alloc, verdict)?;
+            let line = verdict_line_of(alloc, several, path, verdict)?;
             with_line_end(line, verdict_status(verdict))
         }
         Err(fault) => refused(alloc, path, &Fault::from(fault)),

@@ -1,9 +1,9 @@
 //! The command line, as defined for `clap`.
 ghost use Rattle.std.specs.Prelude.{◌≡◌, IfOk, IsOkAnd, codes, false};
 ghost use Rattle.clap.specs.Words.{AddsSubcommand, app_of, new_app, new_rule, rule_of};
-ghost use Rattle.plist_convert.specs.CommandLine.{IsConvert, IsProgram, file_word, one_file};
-ghost use Rattle.plist_convert.specs.CommandLine.{explain as explain_line, program_top};
-ghost use Rattle.plist_convert.specs.CommandLine.{same as same_line};
+ghost use Rattle.plist_convert.specs.CommandLine.{IsConvert, IsProgram, file_word, file_words};
+ghost use Rattle.plist_convert.specs.CommandLine.{explain as explain_line, one_file, program_top};
+ghost use Rattle.plist_convert.specs.CommandLine.{same as same_line, some_files};
 
 use crate::help;
 use clap::{Arg, Command};
@@ -61,22 +61,22 @@ fn same<'a>(alloc: Global) -> Result<Command<'a>, AllocError>
 }
 
 fn lint<'a>(alloc: Global) -> Result<Command<'a>, AllocError>
-    ensures { IfOk result (λ command. app_of command ≡ one_file (codes "lint")) }
+    ensures { IfOk result (λ command. app_of command ≡ some_files (codes "lint")) }
 {
-    described(alloc, "lint", help::LINT_ABOUT, help::LINT_AFTER).arg(required(
+    described(alloc, "lint", help::LINT_ABOUT, help::LINT_AFTER).arg(several(
         alloc,
         "IN",
-        "The file to read",
+        "The files to read",
     ))
 }
 
 fn check<'a>(alloc: Global) -> Result<Command<'a>, AllocError>
-    ensures { IfOk result (λ command. app_of command ≡ one_file (codes "check")) }
+    ensures { IfOk result (λ command. app_of command ≡ some_files (codes "check")) }
 {
-    described(alloc, "check", help::CHECK_ABOUT, help::CHECK_AFTER).arg(required(
+    described(alloc, "check", help::CHECK_ABOUT, help::CHECK_AFTER).arg(several(
         alloc,
         "IN",
-        "The file to read",
+        "The files to read",
     ))
 }
 
@@ -113,6 +113,14 @@ fn required<'a>(alloc: Global, id: &'a str, text: &'a str) -> Arg<'a>
     ensures local { result.global ≡ false }
 {
     Arg::new(alloc, id).required(true).help(text)
+}
+
+/// Returns a required argument with one value or more.
+fn several<'a>(alloc: Global, id: &'a str, text: &'a str) -> Arg<'a>
+    ensures rule { rule_of result ≡ file_words id.entry.now }
+    ensures local { result.global ≡ false }
+{
+    Arg::new(alloc, id).required(true).num_args(1..).help(text)
 }
 
 /// Returns an optional argument.

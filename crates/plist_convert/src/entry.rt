@@ -6,7 +6,7 @@ ghost use Rattle.plist_convert.specs.State.{input_of, state};
 
 use crate::disks::Disk;
 use crate::executing::{
-    check_file, compare_files, convert_file, explain_what, lint_file, print_file,
+    check_files, compare_files, convert_file, explain_what, lint_files, print_file,
 };
 use crate::filtering::filter;
 use crate::host_disk::HostDisk;
@@ -166,8 +166,8 @@ fn execute<H: BuildHasher + Copy, D: Disk, S: Source, W: Sink>(
         Request::Same { first, second } => compare_files(
             alloc, hasher, disk, first, second, output,
         ),
-        Request::Lint { path } => lint_file(alloc, disk, path, output),
-        Request::Check { path } => check_file(alloc, hasher, disk, path, output),
+        Request::Lint { paths } => lint_files(alloc, disk, paths.as_slice(), output),
+        Request::Check { paths } => check_files(alloc, hasher, disk, paths.as_slice(), output),
         Request::Print { path } => print_file(alloc, disk, path, output),
         Request::Explain { what } => explain_what(alloc, what, output),
     }

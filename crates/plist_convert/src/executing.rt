@@ -1,29 +1,59 @@
 //! Executes each command on the files of its arguments.
-ghost use Rattle.std.specs.Prelude.{◌≡◌, ℕ, Option, option_map};
+ghost use Rattle.std.specs.Prelude.{◌≡◌, ℕ, Option, map, option_map};
 ghost use Rattle.plist_convert.specs.Files.{Files};
-ghost use Rattle.plist_convert.specs.Runs.{IsCheckRun, IsConvertRun, IsLintRun, IsPrintRun};
-ghost use Rattle.plist_convert.specs.Runs.{IsExplainRun, IsSameRun};
+ghost use Rattle.plist_convert.specs.Runs.{IsCheckRun, IsChecked, IsConvertRun, IsLintRun};
+ghost use Rattle.plist_convert.specs.Runs.{IsExplainRun, IsLinted, IsPrintRun, IsSameRun};
 ghost use Rattle.plist_convert.specs.Runs.{path_of_fault};
 ghost use Rattle.plist_convert.specs.State.{state};
 
-use crate::answers::{check_answer, explain_answer, lint_answer, same_answer};
+use crate::answers::{check_answer_of, explain_answer, lint_answer, same_answer};
 use crate::disks::Disk;
 use crate::filtering::STANDARD;
-use crate::printing::{give, report};
+use crate::printing::{give, have_failed, report};
 use plist_devices::Sink;
 use plist_forms::{Fault, Form, Status, print};
 use std::alloc::Global;
 use std::hash::BuildHasher;
 
-/// Executes `check IN`.
-pub(crate) fn check_file<H: BuildHasher + Copy, D: Disk, W: Sink>(
+/// Executes `check IN..`. If there are several paths, each line has its path. Only one file is in
+/// memory at a time.
+pub(crate) fn check_files<H: BuildHasher + Copy, D: Disk, W: Sink>(
     alloc: Global,
     hasher: H,
     disk: &mut D,
+    paths: &[&str],
+    output: &mut W,
+) -> u8
+    ensures run { IsCheckRun (map (λ path. path.now) paths.now)
+        (state (D.files disk.old) (D.failures disk.old)
+        (W.taken output.old) (W.failures output.old))
+        (state (D.files disk.new) (D.failures disk.new)
+        (W.taken output.new) (W.failures output.new))
+        result }
+    ensures same { W.device output.new ≡ W.device output.old }
+{
+    let several = paths.len() > 1;
+    let mut status = 0u8;
+    for path in paths {
+        let failures = output.failures();
+        status = status.max(check_file(alloc, hasher, disk, several, path, output));
+        if have_failed(failures, output.failures()) {
+            return status;
+        }
+    }
+    status
+}
+
+/// Executes `check` for one path, which is alone or one of several.
+fn check_file<H: BuildHasher + Copy, D: Disk, W: Sink>(
+    alloc: Global,
+    hasher: H,
+    disk: &mut D,
+    several: bool,
     path: &str,
     output: &mut W,
 ) -> u8
-    ensures run { IsCheckRun path.now
+    ensures run { IsChecked several path.now
         (state (D.files disk.old) (D.failures disk.old)
         (W.taken output.old) (W.failures output.old))
         (state (D.files disk.new) (D.failures disk.new)
@@ -32,19 +62,43 @@ pub(crate) fn check_file<H: BuildHasher + Copy, D: Disk, W: Sink>(
     ensures same { W.device output.new ≡ W.device output.old }
 {
     match disk.load(alloc, path) {
-        Ok(octets) => give(output, check_answer(alloc, hasher, path, octets.as_slice())),
+        Ok(octets) => give(
+            output,
+            check_answer_of(alloc, hasher, several, path, octets.as_slice()),
+        ),
         Err(fault) => report(alloc, path, &fault, output),
     }
 }
 
-/// Executes `lint IN`.
-pub(crate) fn lint_file<D: Disk, W: Sink>(
+/// Executes `lint IN..`. Only one file is in memory at a time.
+pub(crate) fn lint_files<D: Disk, W: Sink>(
     alloc: Global,
     disk: &mut D,
-    path: &str,
+    paths: &[&str],
     output: &mut W,
 ) -> u8
-    ensures run { IsLintRun path.now
+    ensures run { IsLintRun (map (λ path. path.now) paths.now)
+        (state (D.files disk.old) (D.failures disk.old)
+        (W.taken output.old) (W.failures output.old))
+        (state (D.files disk.new) (D.failures disk.new)
+        (W.taken output.new) (W.failures output.new))
+        result }
+    ensures same { W.device output.new ≡ W.device output.old }
+{
+    let mut status = 0u8;
+    for path in paths {
+        let failures = output.failures();
+        status = status.max(lint_file(alloc, disk, path, output));
+        if have_failed(failures, output.failures()) {
+            return status;
+        }
+    }
+    status
+}
+
+/// Executes `lint` for one path.
+fn lint_file<D: Disk, W: Sink>(alloc: Global, disk: &mut D, path: &str, output: &mut W) -> u8
+    ensures run { IsLinted path.now
         (state (D.files disk.old) (D.failures disk.old)
         (W.taken output.old) (W.failures output.old))
         (state (D.files disk.new) (D.failures disk.new)

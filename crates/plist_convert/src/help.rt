@@ -65,7 +65,8 @@ pub(crate) const LINT_ABOUT: &str = "Checks whether a file is a property list";
 
 pub(crate) const LINT_AFTER: &str = "\
 Reads a property list, a binary file or an OpenStep text, from IN, and writes no
-file. Prints one line: IN: OK, or what is refused, where, and why.
+file. Prints one line: IN: OK, or what is refused, where, and why. Several files
+get a line each, in the order given, and the greatest of their exit statuses.
 
 XML is refused with 21. Each of these makes it binary; always use the same one,
 since they write reals differently, in 4 bytes or in 8. The last is for macOS:
@@ -89,7 +90,8 @@ pub(crate) const CHECK_ABOUT: &str = "Checks whether a file is already canonical
 pub(crate) const CHECK_AFTER: &str = "\
 Reads a binary property list (bplist00) from IN, and writes no file. Prints one
 line: canonical, or a rule that is broken and the object at which this was seen,
-such as broken C7 at object 0.
+such as broken C7 at object 0. Several files get a line each, as IN: canonical,
+in the order given, and the greatest of their exit statuses.
 
   C0  every object can be read, and the value is within the limits
   C1  the trailer begins with six zeros, and the top object is 0

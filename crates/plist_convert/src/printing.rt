@@ -1,9 +1,10 @@
 //! Printing, and the exit status that results.
-ghost use Rattle.std.specs.Prelude.{◌≡◌, ◌↔◌, MatchResult, IsTrue};
+ghost use Rattle.std.specs.Prelude.{◌≡◌, ◌↔◌, MatchResult, IsTrue, false};
 ghost use Rattle.clap.specs.Words.{kind_of};
 ghost use Rattle.plist_forms.specs.Status.{status_code};
 ghost use Rattle.plist_convert.specs.Answer.{refusal, said_of};
-ghost use Rattle.plist_convert.specs.Ending.{Ends, Prints, no_memory as no_memory_said};
+ghost use Rattle.plist_convert.specs.Ending.{Ends, HaveFailed, Prints};
+ghost use Rattle.plist_convert.specs.Ending.{no_memory as no_memory_said};
 ghost use Rattle.plist_convert.specs.Explaining.{Explains, IsExplanation, status_of_kind};
 
 use crate::answers::{Answer, refused};
@@ -93,4 +94,13 @@ fn report_no_memory<W: Sink>(output: &mut W) -> u8
     ensures same { W.device output.new ≡ W.device output.old }
 {
     print(output, "refused 60 OutOfMemory\n", Status::NoMemory)
+}
+
+/// Returns whether printing failed between these two counts of failures. Once a count is `u64::MAX`
+/// everything that is printed fails.
+pub(crate) fn have_failed(before: u64, after: u64) -> bool
+    ensures failed { IsTrue result → HaveFailed before after }
+    ensures printed { result ≡ false → HaveFailed before after → ⊥ }
+{
+    before < after || after == u64::MAX
 }

@@ -1,6 +1,7 @@
 //! Parses the command line.
-ghost use Rattle.std.specs.Prelude.{◌≡◌, ◌<◌, ◌≤◌, length, map, option_map, Ok};
-ghost use Rattle.clap.specs.Words.{app_of, first_of, found_of, rows_of, subcommand_rows_of};
+ghost use Rattle.std.specs.Prelude.{◌≡◌, ◌<◌, ◌≤◌, IfOk, length, map, option_map, Ok};
+ghost use Rattle.clap.specs.Words.{all_of, app_of, first_of, found_of, rows_of};
+ghost use Rattle.clap.specs.Words.{subcommand_rows_of};
 ghost use Rattle.plist_convert.specs.Asked.{asked_by, asked_at, check_at, convert_at};
 ghost use Rattle.plist_convert.specs.Asked.{explain_at, form_of, lint_at, print_at, same_at};
 ghost use Rattle.plist_convert.specs.CommandLine.{IsProgram};
@@ -11,7 +12,7 @@ use crate::request::Request;
 use clap::error::ErrorKind;
 use clap::{ArgMatches, Command, Error};
 use plist_forms::Form;
-use std::alloc::Global;
+use std::alloc::{AllocError, Global};
 
 /// Returns the request of these arguments, of which the first is the program's name. Without
 /// another argument, it is the filter.
@@ -28,33 +29,43 @@ pub fn read_words<'a>(alloc: Global, words: &'a [&'a str]) -> Result<Request<'a>
         return Ok(Request::Filter);
     }
     let mut command = program(alloc)?;
-    read_by(&mut command, words)
+    read_by(alloc, &mut command, words)
 }
 
 /// Parses the arguments with the program's command line.
-fn read_by<'a>(command: &mut Command<'a>, words: &'a [&'a str]) -> Result<Request<'a>, Error>
+fn read_by<'a>(
+    alloc: Global,
+    command: &mut Command<'a>,
+    words: &'a [&'a str],
+) -> Result<Request<'a>, Error>
     ensures { IsProgram (app_of command.old)
         → IsReading (map (λ word. word.now) words.now) result }
 {
     let matches = command.try_get_matches_from_mut(words)?;
-    match request_of(&matches) {
+    match request_of(alloc, &matches)? {
         Some(request) => Ok(request),
         None => Err(command.error(ErrorKind::MissingSubcommand, "a word is missing")?),
     }
 }
 
-fn request_of<'a>(matches: &ArgMatches<'a>) -> Option<Request<'a>>
-    ensures { option_map asked_by result ≡ asked_at (subcommand_rows_of matches.now) }
+fn request_of<'a>(
+    alloc: Global,
+    matches: &ArgMatches<'a>,
+) -> Result<Option<Request<'a>>, AllocError>
+    ensures { IfOk result (λ request.
+        option_map asked_by request ≡ asked_at (subcommand_rows_of matches.now)) }
 {
-    let (word, given) = matches.subcommand()?;
+    let Some((word, given)) = matches.subcommand() else {
+        return Ok(None);
+    };
     match word {
-        "convert" => convert_request(given),
-        "same" => same_request(given),
-        "lint" => lint_request(given),
-        "check" => check_request(given),
-        "print" => print_request(given),
-        "explain" => explain_request(given),
-        _ => None,
+        "convert" => Ok(convert_request(given)),
+        "same" => Ok(same_request(given)),
+        "lint" => lint_request(alloc, given),
+        "check" => check_request(alloc, given),
+        "print" => Ok(print_request(given)),
+        "explain" => Ok(explain_request(given)),
+        _ => Ok(None),
     }
 }
 
@@ -77,20 +88,24 @@ fn same_request<'a>(given: &ArgMatches<'a>) -> Option<Request<'a>>
     })
 }
 
-fn lint_request<'a>(given: &ArgMatches<'a>) -> Option<Request<'a>>
-    ensures { option_map asked_by result ≡ lint_at (rows_of (found_of given.now)) }
+fn lint_request<'a>(
+    alloc: Global,
+    given: &ArgMatches<'a>,
+) -> Result<Option<Request<'a>>, AllocError>
+    ensures { IfOk result (λ request.
+        option_map asked_by request ≡ lint_at (rows_of (found_of given.now))) }
 {
-    Some(Request::Lint {
-        path: value(given, "IN")?,
-    })
+    Ok(values(alloc, given, "IN")?.map(|paths| Request::Lint { paths }))
 }
 
-fn check_request<'a>(given: &ArgMatches<'a>) -> Option<Request<'a>>
-    ensures { option_map asked_by result ≡ check_at (rows_of (found_of given.now)) }
+fn check_request<'a>(
+    alloc: Global,
+    given: &ArgMatches<'a>,
+) -> Result<Option<Request<'a>>, AllocError>
+    ensures { IfOk result (λ request.
+        option_map asked_by request ≡ check_at (rows_of (found_of given.now))) }
 {
-    Some(Request::Check {
-        path: value(given, "IN")?,
-    })
+    Ok(values(alloc, given, "IN")?.map(|paths| Request::Check { paths }))
 }
 
 fn print_request<'a>(given: &ArgMatches<'a>) -> Option<Request<'a>>
@@ -125,4 +140,20 @@ fn value<'a>(given: &ArgMatches<'a>, id: &str) -> Option<&'a str>
         ≡ first_of id.now (rows_of (found_of given.now)) }
 {
     given.get_str(id)
+}
+
+/// Returns all values of this argument, in the order given.
+fn values<'a>(
+    alloc: Global,
+    given: &ArgMatches<'a>,
+    id: &str,
+) -> Result<Option<Vec<&'a str>>, AllocError>
+    ensures { IfOk result (λ found.
+        option_map (λ texts. map (λ text. text.now) texts.items) found
+        ≡ all_of id.now (rows_of (found_of given.now))) }
+{
+    match given.get_strs(id) {
+        Some(texts) => Ok(Some(Vec::from_slice(alloc, texts)?)),
+        None => Ok(None),
+    }
 }

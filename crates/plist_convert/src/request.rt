@@ -3,7 +3,7 @@
 use plist_forms::Form;
 
 /// A command with its arguments.
-#[derive(Clone, Copy, Debug, PartialEq, Eq)]
+#[derive(Debug, PartialEq, Eq, Drop)]
 pub enum Request<'a> {
     /// No arguments: writes the canonical file of standard input to standard output.
     Filter,
@@ -18,13 +18,13 @@ pub enum Request<'a> {
         first: &'a str,
         second: &'a str,
     },
-    /// `lint IN`: checks whether a file is accepted.
+    /// `lint IN..`: checks whether each file is accepted.
     Lint {
-        path: &'a str,
+        paths: Vec<&'a str>,
     },
-    /// `check IN`: checks whether a file is canonical.
+    /// `check IN..`: checks whether each file is canonical.
     Check {
-        path: &'a str,
+        paths: Vec<&'a str>,
     },
     /// `print IN`: prints the value of a file to standard output.
     Print {

@@ -1,6 +1,7 @@
 //! How the verdict of a check is printed.
 ghost use Rattle.std.specs.Prelude.{◌≡◌, IfOk, string_bytes};
 ghost use Rattle.plist_forms.specs.Status.{status_code};
+ghost use Rattle.plist_convert.specs.Verdicts.{verdict_line_of as verdict_line_for};
 ghost use Rattle.plist_convert.specs.Verdicts.{verdict_status_for, verdict_text};
 
 use plist_canon::Verdict;
@@ -9,7 +10,7 @@ use std::alloc::{AllocError, Global};
 
 /// Returns the line of a verdict, without a line end, such as `canonical` or `broken C7 at object
 /// 0`.
-pub(crate) fn verdict_line(alloc: Global, verdict: Verdict) -> Result<String, AllocError>
+fn verdict_line(alloc: Global, verdict: Verdict) -> Result<String, AllocError>
     ensures { IfOk result (λ text. string_bytes text ≡ verdict_text verdict) }
 {
     match verdict {
@@ -17,6 +18,24 @@ pub(crate) fn verdict_line(alloc: Global, verdict: Verdict) -> Result<String, Al
         Verdict::Broken { rule, object } => {
             format!(in alloc; "broken C{rule} at object {object}")
         }
+    }
+}
+
+/// Returns the line of a verdict, after the path and `: ` if the file is one of several.
+pub(crate) fn verdict_line_of(
+    alloc: Global,
+    several: bool,
+    path: &str,
+    verdict: Verdict,
+) -> Result<String, AllocError>
+    ensures { IfOk result (λ text.
+        string_bytes text ≡ verdict_line_for several path.now verdict) }
+{
+    let line = verdict_line(alloc, verdict)?;
+    if several {
+        format!(in alloc; "{path}: {line}")
+    } else {
+        Ok(line)
     }
 }
 

@@ -1,13 +1,13 @@
 use Rattle.std.proofs.Common.{inl, rules}
 use Rattle.std.specs.Prelude.{IfOk}
 use Rattle.plist_convert.specs.Answer.{IsLintAnswer, said_of}
-use Rattle.plist_convert.specs.Runs.{IsLintRun}
+use Rattle.plist_convert.specs.Runs.{IsLinted}
 use Rattle.plist_convert.specs.State.{state}
 use Rattle.plist_convert.proofs.Runs.{file_answered}
 use Rattle.plist_convert.proofs.executing.lint_file.Goals as goal
 
 pub returns-in-Ok-clause-run : goal.returns-in-Ok-clause-run
-unfolding IsLintRun
+unfolding IsLinted
 returns-in-Ok-clause-run g c =
     let before = state (g.D.Disk.files c.args.disk.now) (g.D.Disk.failures c.args.disk.now) (g.W.Sink.taken c.args.output.now) (g.W.Sink.failures c.args.output.now) in
     let after = state (g.D.Disk.files c.load.new.self) (g.D.Disk.failures c.load.new.self) (g.W.Sink.taken c.give.new.output) (g.W.Sink.failures c.give.new.output) in
@@ -16,7 +16,7 @@ returns-in-Ok-clause-run g c =
     c.in-Ok.ensures.found c.in-Ok.ensures.kept c.in-Ok.ensures.unfailed answers c.give.ensures.ends
 
 pub returns-in-Err-clause-run : goal.returns-in-Err-clause-run
-unfolding IsLintRun
+unfolding IsLinted
 returns-in-Err-clause-run g c = inl (record {
   fault = c.in-Err.fault;
   cause = c.in-Err.ensures.refused;

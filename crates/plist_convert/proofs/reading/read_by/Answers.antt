@@ -12,7 +12,11 @@ returns-in_err-matches c = λ line.
 pub returns-in-Some : goal.returns-in-Some
 returns-in-Some c = λ line.
     read_taken (app_of c.args.command.now) _ c.in_ok-matches.matches c.in-Some.request line c.in_ok-matches.ensures.ok.2
-    (c.in_ok-matches.ensures.kinds (program_free _ line)) c.in-Some.ensures
+    (c.in_ok-matches.ensures.kinds (program_free _ line)) (search rules)
+
+pub returns-in_err-request : goal.returns-in_err-request
+returns-in_err-request c = λ line.
+    read_refused (app_of c.args.command.now) _ c.from_residual-in_err-request.result line (search rules) (search rules)
 
 pub returns-in_err-error-in-None : goal.returns-in_err-error-in-None
 returns-in_err-error-in-None c = λ line.
