@@ -18,6 +18,8 @@ refused() { # WORD..
 refused "$named"
 refused lint "$named"
 refused check "$named"
+refused lint plain.plist "$named"
+refused check "$named" plain.plist
 refused same plain.plist "$named"
 refused same "$named" plain.plist
 refused convert binary1 "$named" made
