@@ -6,9 +6,10 @@ usage: bench/growths.py [PLISTCONV] [--short] [--library libplistconv.a] [--test
 
 A run of the program with a failed allocation must end as with ample memory, or with status 5 and the line of 60, after
 writing as many bytes as that line says. If it fails before the first byte was written, the output file must be
-unchanged. A test must pass, or return an allocation error or 60. One whose assertion fails was given another answer,
-whatever numbers the assertion prints; bench/growing.c is a test that ends in each of these ways. Tests that make more
-than 2,000 allocations, take longer than a second, or cannot tell these endings, are left out by name.
+unchanged. If several files are checked, one of them may have that line, and the others must have their own. A test must
+pass, or return an allocation error or 60. One whose assertion fails was given another answer, whatever numbers the
+assertion prints; bench/growing.c is a test that ends in each of these ways. Tests that make more than 2,000
+allocations, take longer than a second, or cannot tell these endings, are left out by name.
 
 With --library each allocation of plistconv_check fails in turn, on the canonical file of the array of the strings 000
 to 254. The function builds no value, so it makes fewer than 100 allocations. If the 100th is to fail, the answer is
@@ -69,7 +70,8 @@ SHORT_TESTS = ("growths::", "object_tests::a_refused_put_leaves_the_list", "draf
                "print_tests::what_was_printed_is_a_front")
 
 WORDS = [["convert", "binary1", "IN", "out"], ["convert", "openstep", "IN", "out"], ["lint", "IN"], ["check", "IN"],
-         ["print", "IN"], ["same", "IN", "table.txt"], ["same", "unsorted.bin", "IN"]]
+         ["print", "IN"], ["same", "IN", "table.txt"], ["same", "unsorted.bin", "IN"],
+         ["lint", "table.txt", "IN", "shared.bin"], ["check", "unsorted.bin", "IN", "shared.bin"]]
 OTHER_WORDS = [["--help"], ["convert", "--help"], ["--version"], ["turn", "table.bin"], ["check"], ["lint", "missing"],
                ["check", "missing"], ["convert", "binary1", "table.bin", "no/out"], ["same", "table.bin", "missing"],
                ["explain"], ["explain", "14"], ["explain", "turn"]]
@@ -141,6 +143,29 @@ def is_wanting(ending, ample, path):
     return output == line[0] and written == (ample[2][:sent] if sent else BEFORE)
 
 
+def wanting_file(ending, ample):
+    """Returns the number of the one file that has the line of 60, if the lines of the other files are as with ample
+    memory, or 0."""
+    status, output, written = ending
+    lines, others = output.splitlines(keepends=True), ample[1].splitlines(keepends=True)
+    differing = [number for number, pair in enumerate(zip(lines, others), 1) if pair[0] != pair[1]]
+    if status != 5 or written != BEFORE or len(lines) != len(others) or len(differing) != 1:
+        return 0
+    line = re.fullmatch(rb"(?:[^\n]*: )?refused 60 OutOfMemory\n", lines[differing[0] - 1])
+    return differing[0] if line else 0
+
+
+def how_it_ended(words, ending, ample):
+    """Returns how the run ended: otherwise than it must, or as it may."""
+    path = b"-" if len(words) == 1 else words[2].encode() if words[1] == "print" else None
+    if ending == ample:
+        return "as with ample memory"
+    if is_wanting(ending, ample, path):
+        return "60"
+    number = wanting_file(ending, ample) if words[1:2] in (["lint"], ["check"]) and len(words) > 3 else 0
+    return f"60 for file {number}" if number else "otherwise"
+
+
 def program_runs(program, names):
     for words in WORDS:
         for name in names:
@@ -202,14 +227,15 @@ def refuse_in_check(library, refusing):
 def refuse_in_program(program, refusing, names):
     wrong, endings = 0, collections.defaultdict(collections.Counter)
     for words, octets in program_runs(program, names):
-        path = b"-" if len(words) == 1 else words[2].encode() if words[1] == "print" else None
         ample, _, allocations = refusing.run(words, octets, 0)
         kind = " ".join(words[1:3] if words[1:2] == ["convert"] else words[1:2]) or "no words"
+        if kind in ("lint", "check") and len(words) > 3:
+            kind += " of several files"
         number = 0
         while number < allocations:
             number += 1
             ending, complaint, allocations = refusing.run(words, octets, number)
-            told = "as with ample memory" if ending == ample else "60" if is_wanting(ending, ample, path) else "otherwise"
+            told = how_it_ended(words, ending, ample)
             endings[kind][told] += 1
             if told == "otherwise":
                 wrong += 1
