@@ -42,8 +42,8 @@ pub fn check_answer<H: BuildHasher + Copy>(
     check_answer_of(alloc, hasher, false, path, octets)
 }
 
-/// Like [`check_answer`], but if the file is one of several, the line of a verdict has its path, such
-/// as `PATH: canonical`.
+/// Like [`check_answer`], but if the file is one of several, the line of a verdict has its path,
+/// such as `PATH: canonical`.
 ///
 /// # Errors
 ///
