@@ -151,7 +151,7 @@ def wanting_file(ending, ample):
     differing = [number for number, pair in enumerate(zip(lines, others), 1) if pair[0] != pair[1]]
     if status != 5 or written != BEFORE or len(lines) != len(others) or len(differing) != 1:
         return 0
-    line = re.fullmatch(rb"(?:[^\n]*: )?refused 60 OutOfMemory\n", lines[differing[0] - 1])
+    line = re.fullmatch(rb"(?:[^\n]*: )?refused 60 OutOfMemory(?: after 0 octets)?\n", lines[differing[0] - 1])
     return differing[0] if line else 0
 
 
