@@ -1,6 +1,6 @@
 """A second implementation of docs/FORMATS.md, for comparisons with the program: values, both readers, the canonical
-file, the OpenStep text of a value, its printed text, the rules of `check`, and what `explain` explains. It is slow and
-simple, shares no code with the program, and nothing about it is proved.
+file, the OpenStep text of a value, its printed text, the rules of `check`, the lines of several files, and what
+`explain` explains. It is slow and simple, shares no code with the program, and nothing about it is proved.
 
 A value is a pair (kind, content): ('text', units), ('whole', n), ('flag', b), ('real4', octets),
 ('real8', octets), ('moment', octets), ('bytes', octets), ('list', values), ('table', {units: value}).
@@ -763,3 +763,24 @@ def topic(text):
         if word == str(code) or (word.isascii() and word.lower() == name.lower()):
             return '%d %s' % (code, name)
     return word.upper() if len(word) == 2 and word[0] in 'Cc' and word[1] in '01234567' else None
+
+
+# The lines of several files.
+
+
+def line_and_status(word, path, octets, several):
+    """Returns what `lint` or `check` prints for a file, alone or as one of several, and the exit status."""
+    try:
+        if word == 'lint':
+            read_any(octets)
+            return path + ': OK', 0
+        verdict = check(octets)
+    except Refused as fault:
+        return '%s: refused %s' % (path, fault.text()), 2
+    return path + ': ' + verdict if several else verdict, 0 if verdict == 'canonical' else 1
+
+
+def run(word, files):
+    """Returns what `lint` or `check` prints for these files, pairs of a path and its bytes, and the exit status."""
+    answers = [line_and_status(word, path, octets, len(files) > 1) for path, octets in files]
+    return ''.join(line + '\n' for line, _ in answers), max(status for _, status in answers)

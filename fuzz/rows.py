@@ -129,8 +129,15 @@ def topic(octets):
     return oracle.topic(octets.decode()) or 'nothing'
 
 
+def several(word, forms):
+    said, status = oracle.run(word, list(zip('abcd', map(octets_of, forms))))
+    return '%s (status %d)' % (shown(said.encode()), status)
+
+
 def answer(line):
     name, question, form = line.split(' ', 2)
+    if question in ('lint', 'check'):
+        return '%s: %s' % (name, several(question, form.split('&')))
     ask = {'value': value, 'print': print_of, 'layout': layout, 'tokens': tokens, 'fronts': fronts,
            'topic': topic}[question]
     try:

@@ -5,6 +5,7 @@ ghost use Rattle.plist_object.specs.Views.{octets_of};
 
 use crate::octets::shown;
 use crate::row::{Question, Row};
+use crate::several::answer_several;
 use crate::values::answer_value;
 use ostep_lex::{Token, TokenKind, open, tokens};
 use plist_devices::ListSink;
@@ -20,13 +21,15 @@ const ROOM: usize = 65_536;
 
 /// Returns the line that answers the row.
 pub(crate) fn answer(alloc: Global, row: &Row) -> Result<String, AllocError> {
-    let octets = row.octets.as_slice();
+    let octets = row.octets();
     match row.question {
         Question::Value => answer_value(alloc, row.name, octets),
         Question::Print => answer_print(alloc, row.name, octets),
         Question::Layout => answer_layout(alloc, row.name, octets),
         Question::Tokens => answer_tokens(alloc, row.name, octets),
         Question::Fronts => answer_fronts(alloc, row.name, octets),
+        Question::Lint => answer_several(alloc, "lint", row),
+        Question::Check => answer_several(alloc, "check", row),
         Question::Topic => answer_topic(alloc, row.name, octets),
     }
 }

@@ -8,6 +8,7 @@
 mod answers;
 mod octets;
 mod row;
+mod several;
 mod values;
 
 use answers::answer;

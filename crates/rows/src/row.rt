@@ -19,6 +19,10 @@ pub(crate) enum Question {
     Fronts,
     /// The refusal or rule that is explained for it.
     Topic,
+    /// The lines of `lint` for several inputs, and the status.
+    Lint,
+    /// The lines of `check` for several inputs, and the status.
+    Check,
 }
 
 impl Question {
@@ -30,6 +34,8 @@ impl Question {
             "tokens" => Some(Question::Tokens),
             "fronts" => Some(Question::Fronts),
             "topic" => Some(Question::Topic),
+            "lint" => Some(Question::Lint),
+            "check" => Some(Question::Check),
             _ => None,
         }
     }
@@ -40,7 +46,7 @@ impl Question {
 pub(crate) struct Row<'a> {
     pub(crate) name: &'a str,
     pub(crate) question: Question,
-    pub(crate) octets: Vec<u8>,
+    pub(crate) inputs: Vec<Vec<u8>>,
 }
 
 impl<'a> Row<'a> {
@@ -51,6 +57,8 @@ impl<'a> Row<'a> {
     ///   bytes;
     /// - `laid WIDTH OBJECTS ENTRIES`: the binary file of these bytes of objects and these entries
     ///   of the offset table, one byte each.
+    ///
+    /// The inputs of `lint` and `check` are separated by `&`.
     pub(crate) fn read(alloc: Global, line: &'a str) -> Result<Option<Row<'a>>, AllocError> {
         let Some((name, rest)) = line.split_once(' ') else {
             return Ok(None);
@@ -61,15 +69,44 @@ impl<'a> Row<'a> {
         let Some(question) = Question::of(word) else {
             return Ok(None);
         };
-        let Some(octets) = octets_of(alloc, rest)? else {
+        let Some(inputs) = inputs_of(alloc, question, rest)? else {
             return Ok(None);
         };
         Ok(Some(Row {
             name,
             question,
-            octets,
+            inputs,
         }))
     }
+
+    /// Returns the first input.
+    pub(crate) fn octets(&self) -> &[u8] {
+        match self.inputs.first() {
+            Some(octets) => octets.as_slice(),
+            None => &[],
+        }
+    }
+}
+
+// Returns the inputs. Only `lint` and `check` have several.
+fn inputs_of(
+    alloc: Global,
+    question: Question,
+    text: &str,
+) -> Result<Option<Vec<Vec<u8>>>, AllocError> {
+    let mut inputs = Vec::new(alloc);
+    // A row has no line end, so the input of any other question is not split.
+    let mark = match question {
+        Question::Lint | Question::Check => '&',
+        _ => '\n',
+    };
+    for part in text.split(mark) {
+        let Some(octets) = octets_of(alloc, part)? else {
+            return Ok(None);
+        };
+        inputs.push(octets)?;
+    }
+    Ok(Some(inputs))
 }
 
 // Returns the input for a form and what follows it.
