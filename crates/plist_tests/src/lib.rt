@@ -49,6 +49,8 @@ mod readme;
 #[cfg(test)]
 mod send_tests;
 #[cfg(test)]
+mod several_tests;
+#[cfg(test)]
 mod sink_tests;
 #[cfg(test)]
 mod strict;
