@@ -48,7 +48,8 @@ IsFileRun Answers path before after status =
     IsUnread path before after status ⊎ (IsAnswered Answers path before after status ⊎ IsWanting before after status)
 
 -- The line of one path is printed, and then those of others. The status is the greater.
-pub record IsFollowed (One Others : State → State → ℕ → Type 0) (before after : State) (status : ℕ) : Type 0 where
+pub record IsFollowed (One Others : State → State → ℕ → Type 0) (before after : State) (status : ℕ)
+    : Type 0 where
   pub middle : State
   pub first : ℕ
   pub last : ℕ
@@ -60,7 +61,8 @@ pub record IsFollowed (One Others : State → State → ℕ → Type 0) (before 
 -- A run for each path, in the order given. The lines are those of the single runs, one after
 -- another, and the status is the greatest of theirs. The first path whose line cannot be printed is
 -- the last.
-unfoldable pub IsRunOfEach : (FileName → State → State → ℕ → Type 0) → List FileName → State → State → ℕ → Type 0
+unfoldable pub IsRunOfEach : (FileName → State → State → ℕ → Type 0) → List FileName → State → State
+    → ℕ → Type 0
 IsRunOfEach One [] before after status = (after ≡ before) × (status ≡ 0)
 IsRunOfEach One (path ∷ rest) before after status =
     (One path before after status × HaveFailed before.print_failures after.print_failures)
