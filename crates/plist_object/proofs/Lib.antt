@@ -20,3 +20,4 @@ pub mod PrefixSteps
 pub mod SortedRuns
 pub mod Ascents
 pub mod KeysInTurn
+pub mod Widths

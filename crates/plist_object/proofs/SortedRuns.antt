@@ -14,6 +14,7 @@ use Rattle.std.proofs.lemmas.List.Sorted.{All-permutation, IsNonDecreasingBy-fro
 use Rattle.plist_value.specs.declared.text_ref.TextRef.{TextRef}
 use Rattle.plist_object.specs.declared.order.Row.{Row}
 use Rattle.plist_object.specs.KeyOrder.{TellsOrder, number_of, place_of, units_at}
+use Rattle.plist_object.specs.declared.prefixes.Width.{Width}
 use Rattle.plist_object.specs.Prefixes.{in_run, IsRunSorted}
 use Rattle.plist_object.proofs.KeyOrders.{moved_tell}
 use Rattle.plist_object.proofs.PrefixSteps.{lower_by_head, prefix_below}
@@ -50,9 +51,9 @@ pub record AreRunsSorted (texts : List TextRef) (start : ℕ) (old now : List Ro
   pub tell : All (λ row. All (TellsOrder texts row) done) done
   pub apart : All (λ row. All (IsLess texts row) (drop start old)) done
 
-places_in_run : (texts : List TextRef) (start front : ℕ) (rows : List Row) → map place_of (map (in_run texts start front) rows) ≡ map place_of rows
-places_in_run texts start front [] = refl
-places_in_run texts start front (row ∷ rows) = ap (λ (ps : List ℕ). place_of row ∷ ps) (places_in_run texts start front rows)
+places_in_run : (texts : List TextRef) (start front : ℕ) (width : Width) (rows : List Row) → map place_of (map (in_run texts start front width) rows) ≡ map place_of rows
+places_in_run texts start front width [] = refl
+places_in_run texts start front width (row ∷ rows) = ap (λ (ps : List ℕ). place_of row ∷ ps) (places_in_run texts start front width rows)
 
 -- numbers that never fall, followed by others that are no lower
 fall_append : (xs ys : List Row) (most : ℕ) → IsNonDecreasingBy number_of xs → IsNonDecreasingBy number_of ys → All (λ row. number_of row < most) xs → All (λ row. most ≤ number_of row) ys → IsNonDecreasingBy number_of (xs ++ ys)
@@ -74,24 +75,24 @@ fall_append xs ys most first second below above i j d low high =
     ]
 
 -- a number of the run that begins at index `start`
-number_within : (texts : List TextRef) (start front : ℕ) (row : Row) → number_of (in_run texts start front row) < 2 ^ 64 * (start + 1)
-number_within texts start front row =
-    let below = prefix_below 8 (drop front (units_at texts row)) in omega (arith, below)
+number_within : (texts : List TextRef) (start front : ℕ) (width : Width) (row : Row) → number_of (in_run texts start front width row) < 2 ^ 64 * (start + 1)
+number_within texts start front width row =
+    let below = prefix_below width (drop front (units_at texts row)) in omega (arith, below)
 
 -- rows of one run that are sorted by their sort prefixes
-pub sorted_by_prefix : (texts : List TextRef) (start front : ℕ) (old new : List Row) → IsPermutation (map (in_run texts start front) old) new → IsSorted (λ row other. nat_cmp row.prefix other.prefix) new → IsNonDecreasingBy number_of new
-sorted_by_prefix texts start front old new moved sorted i j d low high =
-    let here : All (λ row. row.run ≡ start) new = All-permutation (λ (row : Row). row.run ≡ start) (map (in_run texts start front) old) new moved (All-map (λ (row : Row). row.run ≡ start) (in_run texts start front) old (λ j e g. refl)) in
+pub sorted_by_prefix : (texts : List TextRef) (start front : ℕ) (width : Width) (old new : List Row) → IsPermutation (map (in_run texts start front width) old) new → IsSorted (λ row other. nat_cmp row.prefix other.prefix) new → IsNonDecreasingBy number_of new
+sorted_by_prefix texts start front width old new moved sorted i j d low high =
+    let here : All (λ row. row.run ≡ start) new = All-permutation (λ (row : Row). row.run ≡ start) (map (in_run texts start front width) old) new moved (All-map (λ (row : Row). row.run ≡ start) (in_run texts start front width) old (λ j e g. refl)) in
     let prefixes = IsNonDecreasingBy-from_sort (λ (row : Row). row.prefix) new sorted i j d low high in
     omega (arith, here i d (omega (arith, low, high)), here j d high, prefixes)
 
 -- rows that share their first units, numbered in one run
-numbered_tell : (texts : List TextRef) (start front : ℕ) (first : List ℕ) (rows : List Row) → All (λ row. take front (units_at texts row) ≡ take front first) rows → All (λ row. All (TellsOrder texts row) (map (in_run texts start front) rows)) (map (in_run texts start front) rows)
-numbered_tell texts start front first rows shared i d h j e g =
-    let now = map (in_run texts start front) rows in
-    let long = length-map rows (in_run texts start front) in
-    let at : (k : ℕ) (b : Row) → k < length now → get_or now k b ≡ in_run texts start front (get_or rows k b) = λ k b within. get_or-map (in_run texts start front) rows k b b (omega (arith, long, within)) in
-    subst (λ (row : Row). TellsOrder texts row (get_or now j e)) (sym (at i d h)) (subst (λ (other : Row). TellsOrder texts (in_run texts start front (get_or rows i d)) other) (sym (at j e g)) (λ below. lower_by_head front first (units_at texts (get_or rows i d)) (units_at texts (get_or rows j e)) (slice_cmp nat_cmp (units_at texts (get_or rows i d)) (units_at texts (get_or rows j e))) (shared i d (omega (arith, long, h))) (shared j e (omega (arith, long, g))) refl (omega (arith, below))))
+numbered_tell : (texts : List TextRef) (start front : ℕ) (width : Width) (first : List ℕ) (rows : List Row) → All (λ row. take front (units_at texts row) ≡ take front first) rows → All (λ row. All (TellsOrder texts row) (map (in_run texts start front width) rows)) (map (in_run texts start front width) rows)
+numbered_tell texts start front width first rows shared i d h j e g =
+    let now = map (in_run texts start front width) rows in
+    let long = length-map rows (in_run texts start front width) in
+    let at : (k : ℕ) (b : Row) → k < length now → get_or now k b ≡ in_run texts start front width (get_or rows k b) = λ k b within. get_or-map (in_run texts start front width) rows k b b (omega (arith, long, within)) in
+    subst (λ (row : Row). TellsOrder texts row (get_or now j e)) (sym (at i d h)) (subst (λ (other : Row). TellsOrder texts (in_run texts start front width (get_or rows i d)) other) (sym (at j e g)) (λ below. lower_by_head width front first (units_at texts (get_or rows i d)) (units_at texts (get_or rows j e)) (slice_cmp nat_cmp (units_at texts (get_or rows i d)) (units_at texts (get_or rows j e))) (shared i d (omega (arith, long, h))) (shared j e (omega (arith, long, g))) refl (omega (arith, below))))
 
 -- one more run is sorted
 module _ (texts : List TextRef) (start end : ℕ) (old now next : List Row) (some : start < end) (within : end ≤ length old) (rises : end < length now → (d : Row) → number_of (get_or now (end - 1) d) < number_of (get_or now end d)) (tells : All (λ row. All (TellsOrder texts row) old) old) (sorted : IsNonDecreasingBy number_of old) (so_far : AreRunsSorted texts start old now) (run : IsRunSorted texts start (take (end - start) (drop start now)) next) (as_many : length next ≡ length (take (end - start) (drop start now))) where
@@ -99,7 +100,7 @@ module _ (texts : List TextRef) (start end : ℕ) (old now next : List Row) (som
   part = take (end - start) (drop start old)
 
   abbrev numbered : List Row
-  numbered = map (in_run texts start run.front) part
+  numbered = map (in_run texts start run.front run.width) part
 
   rest_is : drop start now ≡ drop start old
   rest_is =
@@ -121,7 +122,7 @@ module _ (texts : List TextRef) (start end : ℕ) (old now next : List Row) (som
   behind_now = ap (drop (end - start)) rest_is ∙ behind_is
 
   moved_run : IsPermutation numbered next
-  moved_run = subst (λ (rows : List Row). IsPermutation (map (in_run texts start run.front) rows) next) part_is run.moved
+  moved_run = subst (λ (rows : List Row). IsPermutation (map (in_run texts start run.front run.width) rows) next) part_is run.moved
 
   shared_run : All (λ row. take run.front (units_at texts row) ≡ take run.front run.first) part
   shared_run = subst (λ (rows : List Row). All (λ row. take run.front (units_at texts row) ≡ take run.front run.first) rows) part_is run.shared
@@ -135,20 +136,20 @@ module _ (texts : List TextRef) (start end : ℕ) (old now next : List Row) (som
 
   below_now : All (λ row. number_of row < 2 ^ 64 * end) done_now
   below_now =
-      let in_part : All (λ row. number_of (in_run texts start run.front row) < 2 ^ 64 * end) part = λ k d h. (let is = number_within texts start run.front (get_or part k d) in omega (arith, is, some)) in
-      All-append (λ (row : Row). number_of row < 2 ^ 64 * end) so_far.done next (λ k d h. (let was = so_far.below k d h in omega (arith, was, some))) (All-permutation (λ (row : Row). number_of row < 2 ^ 64 * end) numbered next moved_run (All-map (λ (row : Row). number_of row < 2 ^ 64 * end) (in_run texts start run.front) part in_part))
+      let in_part : All (λ row. number_of (in_run texts start run.front run.width row) < 2 ^ 64 * end) part = λ k d h. (let is = number_within texts start run.front run.width (get_or part k d) in omega (arith, is, some)) in
+      All-append (λ (row : Row). number_of row < 2 ^ 64 * end) so_far.done next (λ k d h. (let was = so_far.below k d h in omega (arith, was, some))) (All-permutation (λ (row : Row). number_of row < 2 ^ 64 * end) numbered next moved_run (All-map (λ (row : Row). number_of row < 2 ^ 64 * end) (in_run texts start run.front run.width) part in_part))
 
   above_next : All (λ row. 2 ^ 64 * start ≤ number_of row) next
   above_next =
-      All-permutation (λ (row : Row). 2 ^ 64 * start ≤ number_of row) numbered next moved_run (All-map (λ (row : Row). 2 ^ 64 * start ≤ number_of row) (in_run texts start run.front) part (λ k d h. omega arith))
+      All-permutation (λ (row : Row). 2 ^ 64 * start ≤ number_of row) numbered next moved_run (All-map (λ (row : Row). 2 ^ 64 * start ≤ number_of row) (in_run texts start run.front run.width) part (λ k d h. omega arith))
 
   less_next : (row : Row) → All (IsLess texts row) (drop start old) → All (IsLess texts row) next
   less_next row less =
-      All-permutation (IsLess texts row) numbered next moved_run (All-map (IsLess texts row) (in_run texts start run.front) part (All-take (IsLess texts row) (end - start) (drop start old) less))
+      All-permutation (IsLess texts row) numbered next moved_run (All-map (IsLess texts row) (in_run texts start run.front run.width) part (All-take (IsLess texts row) (end - start) (drop start old) less))
 
   tell_now : All (λ row. All (TellsOrder texts row) done_now) done_now
   tell_now =
-      let next_tell = moved_tell texts numbered next moved_run (numbered_tell texts start run.front run.first part shared_run) in
+      let next_tell = moved_tell texts numbered next moved_run (numbered_tell texts start run.front run.width run.first part shared_run) in
       All-append (λ row. All (TellsOrder texts row) done_now) so_far.done next
       (λ i d h. All-append (TellsOrder texts (get_or so_far.done i d)) so_far.done next (so_far.tell i d h) (λ j e g below. less_next (get_or so_far.done i d) (so_far.apart i d h) j e g))
       (λ i d h. All-append (TellsOrder texts (get_or next i d)) so_far.done next (λ j e g below. absurd (let low = so_far.below j e g in let high = above_next i d h in omega (arith, low, high, below))) (next_tell i d h))
@@ -177,13 +178,13 @@ module _ (texts : List TextRef) (start end : ℕ) (old now next : List Row) (som
   apart_now =
       All-append (λ row. All (IsLess texts row) (drop end old)) so_far.done next
       (λ i d h. subst (λ (rows : List Row). All (IsLess texts (get_or so_far.done i d)) rows) behind_is (All-drop (IsLess texts (get_or so_far.done i d)) (end - start) (drop start old) (so_far.apart i d h)))
-      (All-permutation (λ row. All (IsLess texts row) (drop end old)) numbered next moved_run (All-map (λ row. All (IsLess texts row) (drop end old)) (in_run texts start run.front) part part_apart))
+      (All-permutation (λ row. All (IsLess texts row) (drop end old)) numbered next moved_run (All-map (λ row. All (IsLess texts row) (drop end old)) (in_run texts start run.front run.width) part part_apart))
 
   moved_now : IsPermutation (map place_of old) (map place_of (done_now ++ drop end old))
   moved_now =
       let rest = drop end old in
       let now_is : now ≡ so_far.done ++ (part ++ rest) = so_far.is ∙ ap (λ (rows : List Row). so_far.done ++ rows) (sym (ap (λ (rows : List Row). part ++ rows) (sym behind_is) ∙ take-append-drop (end - start) (drop start old))) in
-      let one : IsPermutation (map place_of part) (map place_of next) = subst (λ (ps : List ℕ). IsPermutation ps (map place_of next)) (places_in_run texts start run.front part) (IsPermutation-map place_of numbered next moved_run) in
+      let one : IsPermutation (map place_of part) (map place_of next) = subst (λ (ps : List ℕ). IsPermutation ps (map place_of next)) (places_in_run texts start run.front run.width part) (IsPermutation-map place_of numbered next moved_run) in
       let all = IsPermutation-append_right (map place_of so_far.done) (map place_of part ++ map place_of rest) (map place_of next ++ map place_of rest) (IsPermutation-append_left (map place_of rest) (map place_of part) (map place_of next) one) in
       let before : map place_of now ≡ map place_of so_far.done ++ (map place_of part ++ map place_of rest) = ap (map place_of) now_is ∙ map-append place_of so_far.done (part ++ rest) ∙ ap (λ (ps : List ℕ). map place_of so_far.done ++ ps) (map-append place_of part rest) in
       let after : map place_of (done_now ++ rest) ≡ map place_of so_far.done ++ (map place_of next ++ map place_of rest) = ap (map place_of) (append_assoc so_far.done next rest) ∙ map-append place_of so_far.done (next ++ rest) ∙ ap (λ (ps : List ℕ). map place_of so_far.done ++ ps) (map-append place_of next rest) in

@@ -1,14 +1,21 @@
 //! Sort prefixes: numbers by which most keys of a long dictionary are compared.
 ghost use Rattle.std.specs.List.Sorted.{IsNonDecreasingBy, IsPermutation};
-ghost use Rattle.std.specs.Prelude.{◌≡◌, ◌<◌, ◌≤◌, ◌+◌, ◌-◌, ◌^◌, ℕ, List, All, map, take, drop};
-ghost use Rattle.std.specs.Prelude.{length, slice_index_or};
+ghost use Rattle.std.specs.Prelude.{◌≡◌, ◌↔◌, ◌<◌, ◌≤◌, ◌+◌, ◌-◌, ◌^◌, ℕ, IsTrue, List, All, map, take};
+ghost use Rattle.std.specs.Prelude.{drop, length, slice_index_or};
 ghost use Rattle.plist_value.specs.Texts.{units_of};
 ghost use Rattle.plist_object.specs.KeyOrder.{TellsOrder, number_of, place_of, units_at};
-ghost use Rattle.plist_object.specs.Prefixes.{behind, in_run, prefix_of, octet_of};
-ghost use Rattle.plist_object.specs.Prefixes.{IsRunSorted};
+ghost use Rattle.plist_object.specs.Prefixes.{behind, digit_of, digits_of, in_run, prefix_of};
+ghost use Rattle.plist_object.specs.Prefixes.{IsNarrow, IsRunSorted};
 
 use crate::order::{Row, text_at};
 use plist_value::TextRef;
+
+// The number of bits that a sort prefix has for each unit.
+#[derive(Clone, Copy)]
+pub(crate) enum Width {
+    Bits8,
+    Bits16,
+}
 
 // Sorts each run of rows with equal numbers by sort prefixes of the units after those that the run
 // shares, and numbers the rows anew.
@@ -51,7 +58,8 @@ fn sort_run(rows: &mut [Row], texts: &[TextRef], start: u32)
     ensures long { length rows.new ≡ length rows.old }
 {
     let front = shared(&*rows, texts);
-    fill(&mut *rows, texts, start, front);
+    let width = width_of(&*rows, texts, front);
+    fill(&mut *rows, texts, start, front, width);
     rows.sort_unstable_by_key(|row| row.prefix);
 }
 
@@ -71,13 +79,60 @@ fn shared(rows: &[Row], texts: &[TextRef]) -> usize
     count
 }
 
+// Returns the width of the sort prefixes of a run: 8 bits if the next eight units of all strings
+// fit, and else 16, so that strings in most scripts do not all have the same prefix.
+fn width_of(rows: &[Row], texts: &[TextRef], front: usize) -> Width
+    ensures { result ≡ Width.Bits8
+        ↔ All (λ row. IsNarrow (drop front (units_at texts.now row))) rows.now }
+{
+    for row in rows {
+        if !is_narrow(&text_at(texts, row), front) {
+            return Width::Bits16;
+        }
+    }
+    Width::Bits8
+}
+
+// Returns whether the next eight units after the first `front` are all below 256.
+fn is_narrow(text: &TextRef, front: usize) -> bool
+    ensures { IsTrue result ↔ IsNarrow (drop front (units_of text.now)) }
+{
+    match text.octets() {
+        Some(octets) => {
+            bytes_are_narrow(octets, front);
+            true
+        }
+        None => are_narrow(text, front),
+    }
+}
+
+// Does nothing; only its contract is used.
+#[inline(always)]
+fn bytes_are_narrow(octets: &[u8], front: usize)
+    ensures { IsNarrow (drop front octets.now) }
+{}
+
+// Works for each way of storing the string.
+fn are_narrow(text: &TextRef, front: usize) -> bool
+    ensures { IsTrue result ↔ IsNarrow (drop front (units_of text.now)) }
+{
+    let start = front.min(text.len());
+    let end = start + (text.len() - start).min(8);
+    for i in start..end {
+        if text.unit(i) >= 256 {
+            return false;
+        }
+    }
+    true
+}
+
 // Numbers each row by its run, and then by the sort prefix of its units after the first `front`.
-fn fill(rows: &mut [Row], texts: &[TextRef], start: u32, front: usize)
-    ensures { rows.new ≡ map (in_run texts.now start front) rows.old }
+fn fill(rows: &mut [Row], texts: &[TextRef], start: u32, front: usize, width: Width)
+    ensures { rows.new ≡ map (in_run texts.now start front width) rows.old }
 {
     for row in rows.iter_mut() {
         row.run = start;
-        row.prefix = sort_prefix(&text_at(texts, row), front);
+        row.prefix = sort_prefix(&text_at(texts, row), front, width);
     }
 }
 
@@ -125,8 +180,17 @@ fn alike_units(first: &TextRef, text: &TextRef, most: usize) -> usize
 }
 
 // Returns the sort prefix of the units after the first `front`.
-fn sort_prefix(text: &TextRef, front: usize) -> u64
-    ensures { result ≡ prefix_of 8 (drop front (units_of text.now)) }
+fn sort_prefix(text: &TextRef, front: usize, width: Width) -> u64
+    ensures { result ≡ prefix_of width (drop front (units_of text.now)) }
+{
+    match width {
+        Width::Bits8 => narrow_prefix(text, front),
+        Width::Bits16 => wide_prefix(text, front),
+    }
+}
+
+fn narrow_prefix(text: &TextRef, front: usize) -> u64
+    ensures { result ≡ digits_of 255 8 (drop front (units_of text.now)) }
 {
     if let Some(octets) = text.octets() {
         if front <= octets.len() && octets.len() - front >= 8 {
@@ -136,10 +200,10 @@ fn sort_prefix(text: &TextRef, front: usize) -> u64
     units_prefix(text, front)
 }
 
-// Like [`sort_prefix`], for bytes that are the units.
+// Like [`narrow_prefix`], for bytes that are the units.
 fn octets_prefix(octets: &[u8], front: usize) -> u64
     requires { front + 8 ≤ length octets.now }
-    ensures { result ≡ prefix_of 8 (drop front octets.now) }
+    ensures { result ≡ digits_of 255 8 (drop front octets.now) }
 {
     let mut prefix = 0;
     for i in 0..8 {
@@ -149,30 +213,45 @@ fn octets_prefix(octets: &[u8], front: usize) -> u64
 }
 
 fn units_prefix(text: &TextRef, front: usize) -> u64
-    ensures { result ≡ prefix_of 8 (drop front (units_of text.now)) }
+    ensures { result ≡ digits_of 255 8 (drop front (units_of text.now)) }
 {
     let mut prefix = 0;
     let mut place = front;
     for read in 0..8_u32 {
-        let (octet, next) = octet_at(text, place);
-        prefix = 256 * prefix + octet;
+        let (digit, next) = digit_at(text, place, 255);
+        prefix = 256 * prefix + digit;
         place = next;
     }
     prefix
 }
 
-// Returns the byte for the unit at the position, and the position of the unit for the next byte.
-fn octet_at(text: &TextRef, place: usize) -> (u64, usize)
-    ensures octet { result.0 ≡ octet_of (drop place (units_of text.now)) }
-    ensures next { drop result.1 (units_of text.now) ≡ behind (drop place (units_of text.now)) }
+fn wide_prefix(text: &TextRef, front: usize) -> u64
+    ensures { result ≡ digits_of 65535 4 (drop front (units_of text.now)) }
+{
+    let mut prefix = 0;
+    let mut place = front;
+    for read in 0..4_u32 {
+        let (digit, next) = digit_at(text, place, 65535);
+        prefix = 65536 * prefix + digit;
+        place = next;
+    }
+    prefix
+}
+
+// Returns the digit for the unit at the position, and the position of the unit for the next digit.
+#[inline(always)]
+fn digit_at(text: &TextRef, place: usize, most: u16) -> (u64, usize)
+    ensures digit { result.0 ≡ digit_of most (drop place (units_of text.now)) }
+    ensures next { drop result.1 (units_of text.now) ≡ behind most
+        (drop place (units_of text.now)) }
 {
     if place >= text.len() {
         return (0, place);
     }
     let unit = text.unit(place);
-    if unit < 256 {
-        (u64::from(unit), place + 1)
+    if unit > most {
+        (u64::from(most), place)
     } else {
-        (255, place)
+        (u64::from(unit), place + 1)
     }
 }

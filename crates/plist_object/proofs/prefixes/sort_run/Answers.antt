@@ -10,11 +10,15 @@ pub returns-clause-sorted : goal.returns-clause-sorted
 returns-clause-sorted c =
     let texts = c.args.texts.now in
     let now = c.sort_unstable_by_key.new.self in
-    let moved : IsPermutation (map (in_run texts c.args.start c.shared-front.result) c.args.rows.now) now = subst (λ (rows : List Row). IsPermutation rows now) c.fill.ensures c.sort_unstable_by_key.ensures.permutation in
+    let front = c.shared-front.result in
+    let width = c.width_of-width.result in
+    let moved : IsPermutation (map (in_run texts c.args.start front width) c.args.rows.now) now = subst (λ (rows : List Row). IsPermutation rows now) c.fill.ensures c.sort_unstable_by_key.ensures.permutation in
     record {
-      front = c.shared-front.result;
+      front = front;
+      width = width;
       first = c.shared-front.ensures.0;
       shared = c.shared-front.ensures.1;
+      fits = c.width_of-width.ensures;
       moved = moved;
-      sorted = sorted_by_prefix texts c.args.start c.shared-front.result c.args.rows.now now moved (c.sort_unstable_by_key.ensures.sorted (λ row. row.prefix) (answers_always _ _ _ (λ f a r g h. search rules)));
+      sorted = sorted_by_prefix texts c.args.start front width c.args.rows.now now moved (c.sort_unstable_by_key.ensures.sorted (λ row. row.prefix) (answers_always _ _ _ (λ f a r g h. search rules)));
     }

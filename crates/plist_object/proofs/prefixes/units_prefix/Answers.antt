@@ -1,20 +1,20 @@
 use Rattle.std.proofs.Common.{◌+◌, ◌-◌, ◌*◌, ◌^◌, ◌<◌, drop, arith}
 use Rattle.plist_value.specs.Texts.{units_of}
-use Rattle.plist_object.specs.Prefixes.{prefix_of}
-use Rattle.plist_object.proofs.PrefixSteps.{prefix_step, prefix_fits, prefix_below}
+use Rattle.plist_object.specs.Prefixes.{digits_of}
+use Rattle.plist_object.proofs.PrefixSteps.{digits_below, digits_fit, digits_step}
 use Rattle.plist_object.proofs.prefixes.units_prefix.Goals as goal
 
 pub loop-read-preserved : goal.loop-read-preserved
 loop-read-preserved c =
-    prefix_step (8 - c.loop-read.read) (8 - (c.loop-read.read + 1)) c.loop-read.prefix c.octet_at-octet.result.0 (prefix_of 8 (drop c.args.front (units_of c.args.text.now))) (drop c.loop-read.place (units_of c.args.text.now)) (drop c.octet_at-octet.result.1 (units_of c.args.text.now)) (omega arith) c.octet_at-octet.ensures.octet c.octet_at-octet.ensures.next c.loop-read.invariant
+    digits_step 255 (8 - c.loop-read.read) (8 - (c.loop-read.read + 1)) c.loop-read.prefix c.digit_at-digit.result.0 (digits_of 255 8 (drop c.args.front (units_of c.args.text.now))) (drop c.loop-read.place (units_of c.args.text.now)) (drop c.digit_at-digit.result.1 (units_of c.args.text.now)) (omega arith) c.digit_at-digit.ensures.digit c.digit_at-digit.ensures.next c.loop-read.invariant
 
--- with one more byte, what was read is below 2^64
-fits : (c : goal.After-octet_at-octet) → 256 * c.loop-read.prefix + c.octet_at-octet.result.0 < 256 ^ 8
+-- with one more digit, what was read is below 2^64
+fits : (c : goal.After-digit_at-digit) → 256 * c.loop-read.prefix + c.digit_at-digit.result.0 < 256 ^ 8
 fits c =
     let units = units_of c.args.text.now in
-    let whole = prefix_of 8 (drop c.args.front units) in
-    let most = prefix_fits (8 - c.loop-read.read) (8 - (c.loop-read.read + 1)) c.loop-read.prefix c.octet_at-octet.result.0 whole (drop c.loop-read.place units) (omega arith) c.octet_at-octet.ensures.octet c.loop-read.invariant in
-    let below = prefix_below 8 (drop c.args.front units) in
+    let whole = digits_of 255 8 (drop c.args.front units) in
+    let most = digits_fit 255 (8 - c.loop-read.read) (8 - (c.loop-read.read + 1)) c.loop-read.prefix c.digit_at-digit.result.0 whole (drop c.loop-read.place units) (omega arith) c.digit_at-digit.ensures.digit c.loop-read.invariant in
+    let below = digits_below 255 8 (drop c.args.front units) in
     omega (arith, most, below)
 
 pub overflow_mul-prefix : goal.overflow_mul-prefix
