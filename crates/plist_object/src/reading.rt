@@ -314,7 +314,8 @@ pub(crate) fn ascii_text(octets: &[u8]) -> Option<TextRef<'_>>
 }
 
 /// Returns the number of bytes of the object at the start, if it is marked as an ASCII string and
-/// not cut, and else 0. Other objects that are no strings are refused without reading their content.
+/// not cut, and else 0. Other objects that are no strings are refused without reading what they
+/// contain.
 pub(crate) fn ascii_length(octets: &[u8]) -> u64 {
     match octets.split_first() {
         Some((marker, octets)) if marker / 16 == ASCII => length_in(octets, marker % 16),
