@@ -38,7 +38,11 @@ pub fn write_text_of<W: Sink>(alloc: Global, file: &BinFile, out: &mut W) -> Res
 struct OpenStep;
 
 impl<W: Sink> Notation<W> for OpenStep {
+    ghost use Rattle.std.proofs.Common.{rules};
+
     ghost parts = { written_parts };
+
+    ghost begun = { Prim.search rules };
 
     // Writes a string or data. Other scalars have no text: a value with one is not writable.
     fn write_scalar(

@@ -1,5 +1,5 @@
 -- A file that is written in parts: the header, the objects, and its end.
-use Rattle.std.proofs.Common.{◌≡◌, ℕ, ◌+◌, ◌≤◌, List, [], ◌∷◌, ◌++◌, length, Result, Ok, Err, refl, ap, ◌∙◌, arith, length-append}
+use Rattle.std.proofs.Common.{◌≡◌, ℕ, ◌+◌, ◌<◌, ◌≤◌, List, [], ◌∷◌, ◌++◌, length, Result, Ok, Err, refl, ap, ◌∙◌, arith, length-append}
 use Rattle.std.specs.Prelude.{All}
 use Rattle.std.specs.List.{concat, AllByRecursion}
 use Rattle.std.proofs.lemmas.List.Elements.{All-from_recursion}
@@ -8,7 +8,9 @@ use Rattle.plist_object.specs.Spelling.{least_width, references}
 use Rattle.plist_object.specs.Files.{starts}
 use Rattle.plist_object.proofs.Files.{length-starts}
 use Rattle.plist_engine.specs.declared.faults.WriteFault.{WriteFault}
-use Rattle.plist_engine.specs.Canonical.{file_of, trailer_octets}
+use Rattle.plist_value.specs.Plist.{Plist}
+use Rattle.plist_engine.specs.Tree.{preorder}
+use Rattle.plist_engine.specs.Canonical.{canon, file_of, objects_of, trailer_octets}
 use Rattle.plist_engine.specs.Sending.{IsWritten}
 use Rattle.plist_engine.specs.Output.{State, Goes, end_of}
 use Rattle.plist_engine.proofs.Going.{Goes_then, Goes_stop, Goes_same, Goes_put, count_then, is_written, is_refused}
@@ -19,6 +21,11 @@ file-length objects =
     let entries = references (least_width place) (starts 8 objects) in
     let tail = trailer_octets (length objects) place in
     length-append header (concat objects ++ (entries ++ tail)) ∙ ap (λ n. 8 + n) (length-append (concat objects) (entries ++ tail)) ∙ ap (λ n. 8 + (length (concat objects) + n)) (length-append entries tail)
+
+-- no canonical file is empty
+pub canon-some : (v : Plist) → 0 < length (canon v)
+unfolding canon
+canon-some v = let size = file-length (objects_of (preorder v)) in omega (arith, size)
 
 starts-under : (bound p : ℕ) (objects : List (List ℕ)) → p + length (concat objects) ≤ bound → AllByRecursion (λ q. q ≤ bound) (starts p objects)
 starts-under bound p [] h = tt

@@ -14,17 +14,7 @@ use Rattle.plist_engine.specs.Output.{State, Stays, Gathers, Stops, Goes, KeepsS
 
 -- a prefix is no longer than the whole
 pub IsShort-within : (e : WriteFault) (out all : ℕ) → IsShort e out all → out ≤ all
-IsShort-within (WriteFailed sent) out all h = omega arith
-IsShort-within (OutOfMemory sent) out all h = h
-
--- with `first` more bytes before the prefix, and with `last` more after the whole
-IsShort-after : (e : WriteFault) (first out all : ℕ) → IsShort e out all → IsShort e (first + out) (first + all)
-IsShort-after (WriteFailed sent) first out all h = omega arith
-IsShort-after (OutOfMemory sent) first out all h = omega arith
-
-IsShort-before : (e : WriteFault) (out all last : ℕ) → IsShort e out all → IsShort e out (all + last)
-IsShort-before (WriteFailed sent) out all last h = omega arith
-IsShort-before (OutOfMemory sent) out all last h = omega arith
+IsShort-within e out all h = omega arith
 
 pub Stays-trans : (p q r : State) → Stays p q → Stays q r → Stays p r
 Stays-trans p q r first second = record { sink = second.sink ∙ first.sink; device = second.device ∙ first.device }
@@ -54,7 +44,7 @@ Stops-then a b p q r fault first second =
     record {
       more = length first.gone + second.more;
       sent = let x = first.sent in let y = second.sent in omega arith;
-      within = subst (λ (n : ℕ). IsShort fault (length first.gone + second.more) n) size (IsShort-after fault (length first.gone) second.more (length (q.waiting ++ b)) second.within);
+      within = omega (arith, size, second.within);
       taken = subst (λ (l : List ℕ). Appends p.taken r.taken l) (sym cut) (Appends-trans p.taken q.taken r.taken first.gone _ first.taken second.taken);
       blamed = blamed-before fault p.failures q.failures r.failures first.failures second.blamed;
     }
@@ -63,11 +53,12 @@ Stops_front : (a b : List ℕ) (p q : State) (fault : WriteFault) → Stops a p 
 Stops_front a b p q fault stops =
     let whole = append_assoc p.waiting a b in
     let size : length (p.waiting ++ a) + length b ≡ length (p.waiting ++ (a ++ b)) = (let n = ap length (sym whole) ∙ length-append (p.waiting ++ a) b in omega arith) in
+    let within : stops.more ≤ length (p.waiting ++ a) = omega (arith, stops.within) in
     record {
       more = stops.more;
       sent = stops.sent;
-      within = subst (λ (n : ℕ). IsShort fault stops.more n) size (IsShort-before fault stops.more (length (p.waiting ++ a)) (length b) stops.within);
-      taken = subst (λ (l : List ℕ). Appends p.taken q.taken l) (sym (ap (take stops.more) (sym whole) ∙ take-append-le stops.more (p.waiting ++ a) b (IsShort-within fault stops.more (length (p.waiting ++ a)) stops.within))) stops.taken;
+      within = omega (arith, size, stops.within);
+      taken = subst (λ (l : List ℕ). Appends p.taken q.taken l) (sym (ap (take stops.more) (sym whole) ∙ take-append-le stops.more (p.waiting ++ a) b within)) stops.taken;
       blamed = stops.blamed;
     }
 
@@ -106,24 +97,24 @@ Goes_put octets items p put = record {
   stopped = tt;
 }
 
--- out of memory for the bytes
-pub Goes_out : {T : Type 0} (octets items : List ℕ) (p : State) → Goes {T = T} octets p (record p { waiting = items }) (Err (OutOfMemory p.sent))
-Goes_out octets items p = record {
+-- out of memory, with bytes left to send
+pub Goes_out : {T : Type 0} (octets items : List ℕ) (p : State) → 0 < length p.waiting + length octets → Goes {T = T} octets p (record p { waiting = items }) (Err (OutOfMemory p.sent))
+Goes_out octets items p some = record {
   stays = record { sink = refl; device = refl };
   done = tt;
-  stopped = record { more = 0; sent = omega arith; within = omega arith; taken = Appends-nil p.taken; blamed = refl };
+  stopped = record { more = 0; sent = omega arith; within = omega (arith, length-append p.waiting octets, some); taken = Appends-nil p.taken; blamed = refl };
 }
 
 -- the bytes are buffered, or there was no memory for them
-pub Goes_grown : {T : Type 0} (octets items : List ℕ) (p : State) (growth : Result T AllocError) (result : Result T WriteFault) → OnOk growth (items ≡ p.waiting ++ octets) → IfOk result (λ value. growth ≡ Ok value) → IfErr result (λ fault. IsErr growth × (fault ≡ OutOfMemory p.sent)) → Goes octets p (record p { waiting = items }) result
-Goes_grown octets items p growth (Ok value) put is refused =
+pub Goes_grown : {T : Type 0} (octets items : List ℕ) (p : State) (growth : Result T AllocError) (result : Result T WriteFault) → 0 < length p.waiting + length octets → OnOk growth (items ≡ p.waiting ++ octets) → IfOk result (λ value. growth ≡ Ok value) → IfErr result (λ fault. IsErr growth × (fault ≡ OutOfMemory p.sent)) → Goes octets p (record p { waiting = items }) result
+Goes_grown octets items p growth (Ok value) some put is refused =
     let put = rw is at put in
     record {
       stays = record { sink = refl; device = refl };
       done = record { gone = []; whole = sym put; taken = Appends-nil p.taken; sent = omega arith; failures = refl };
       stopped = tt;
     }
-Goes_grown octets items p growth (Err fault) put is refused = rw (refused.1) (Goes_out octets items p)
+Goes_grown octets items p growth (Err fault) some put is refused = rw (refused.1) (Goes_out octets items p some)
 
 -- the remaining bytes fit if all did
 pub room_then : {T : Type 0} (a b : List ℕ) (p q : State) (value : T) (bound : ℕ) → Goes a p q (Ok value) → p.sent + (length p.waiting + length (a ++ b)) < bound → q.sent + (length q.waiting + length b) < bound
@@ -185,7 +176,7 @@ is_refused file p r fault none begins goes =
     record {
       count = tt;
       whole = tt;
-      within = subst (λ (n : ℕ). IsShort fault n (length file)) sent (subst (λ (l : List ℕ). IsShort fault stops.more (length l)) all stops.within);
+      within = omega (arith, sent, ap length all, stops.within);
       front = (
         subst (λ (n : ℕ). Appends p.taken r.taken (take n file)) sent (subst (λ (l : List ℕ). Appends p.taken r.taken (take stops.more l)) all stops.taken),
         stops.blamed,

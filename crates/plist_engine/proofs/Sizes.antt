@@ -1,14 +1,16 @@
 -- The number of bytes of the objects of a value.
-use Rattle.std.proofs.Common.{◌≡◌, ℕ, suc, ◌+◌, ◌*◌, ◌<◌, ◌≤◌, eqb, ltb, cond, true, false, ℤ, pos, negsuc, List, [], ◌∷◌, ◌++◌, length, map, replicate, refl, ap, arith, length-append, lt-ltb}
+use Rattle.std.proofs.Common.{◌≡◌, ℕ, suc, ◌+◌, ◌*◌, ◌<◌, ◌≤◌, eqb, ltb, cond, true, false, ℤ, pos, negsuc, List, [], ◌∷◌, ◌++◌, length, map, replicate, refl, sym, ap, subst, arith, length-append, lt-ltb}
 use Rattle.std.specs.List.{concat, list_all}
 use Rattle.std.proofs.lemmas.List.{length-map}
 use Rattle.std.proofs.lemmas.Bool.{cond_both}
 use Rattle.std.proofs.Math.Nat.{mul-le-mul_right}
 use Rattle.byteorder.specs.Endian.{big_bytes}
 use Rattle.byteorder.specs.Numbers.{length-bytes_high_first}
-use Rattle.plist_value.specs.Plist.{Scalar, text, whole, flag, bytes, Plist, scalar, list, table, Items, no_items, item, Pairs, no_pairs, pair, IsScalar}
+use Rattle.plist_value.specs.Plist.{Scalar, text, whole, flag, real4, real8, moment, bytes, Plist, scalar, list, table, Items, no_items, item, Pairs, no_pairs, pair, IsScalar}
 use Rattle.plist_value.specs.Limits.{nodes, nodes_of_items, nodes_of_pairs, payload, payload_of_scalar, payload_of_items, payload_of_pairs}
 use Rattle.plist_object.specs.Spelling.{least_width, least_integer, head, references, whole_spelling, text_spelling, scalar_spelling}
+use Rattle.plist_object.specs.Objects.{Held, holds_scalar, holds_list, holds_table}
+use Rattle.plist_object.specs.Shortest.{spelling_of}
 use Rattle.plist_object.specs.Sizes.{head_size}
 use Rattle.plist_object.proofs.Counts.{length-head, length-references}
 use Rattle.plist_engine.specs.Tree.{key_texts, preorder, preorder_items, preorder_values, item_places}
@@ -49,6 +51,37 @@ length-text units h =
     let digits = length-references 2 units in
     cond_both (list_all (λ u. ltb u 128) units) (head 5 (length units) ++ units) (head 6 (length units) ++ references 2 units) (λ octets. length octets ≤ 6 + 2 * length units)
     (λ _. rw length-append (omega arith)) (λ _. rw length-append (omega arith))
+
+-- no object is encoded in 0 bytes
+before-more : (a b : List ℕ) → 0 < length a → 0 < length (a ++ b)
+before-more a b some = omega (arith, some, length-append a b)
+
+head-some : (kind n : ℕ) → 0 < length (head kind n)
+head-some kind n =
+    subst (λ (k : ℕ). 0 < k) (sym (length-head kind n)) (cond_both (ltb n 15) 1 (2 + least_width n) (λ k. 0 < k) (λ _. omega arith) (λ _. omega arith))
+
+whole-some : (z : ℤ) → 0 < length (whole_spelling z)
+whole-some (pos n) =
+    cond_both (ltb n 9223372036854775808) (least_integer n) (20 ∷ (replicate 8 0 ++ big_bytes 8 n)) (λ octets. 0 < length octets) (λ _. omega arith) (λ _. omega arith)
+whole-some (negsuc n) = omega arith
+
+scalar-some : (s : Scalar) → 0 < length (scalar_spelling s)
+scalar-some (text units) =
+    cond_both (list_all (λ u. ltb u 128) units) (head 5 (length units) ++ units) (head 6 (length units) ++ references 2 units) (λ octets. 0 < length octets)
+    (λ _. before-more (head 5 (length units)) units (head-some 5 (length units)))
+    (λ _. before-more (head 6 (length units)) (references 2 units) (head-some 6 (length units)))
+scalar-some (whole z) = whole-some z
+scalar-some (flag b) = omega arith
+scalar-some (real4 xs) = omega arith
+scalar-some (real8 xs) = omega arith
+scalar-some (moment xs) = omega arith
+scalar-some (bytes xs) = before-more (head 4 (length xs)) xs (head-some 4 (length xs))
+
+pub spelling-some : (width : ℕ) (held : Held) → 0 < length (spelling_of width held)
+spelling-some width (holds_scalar s) = scalar-some s
+spelling-some width (holds_list refs) = before-more (head 10 (length refs)) (references width refs) (head-some 10 (length refs))
+spelling-some width (holds_table keys values) =
+    before-more (head 13 (length keys)) (references width keys ++ references width values) (head-some 13 (length keys))
 
 abbrev pub item_count : Items → ℕ
 item_count no_items = 0

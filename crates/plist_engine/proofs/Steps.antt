@@ -1,5 +1,5 @@
 -- Pieces are written one after another, and refusals are returned.
-use Rattle.std.proofs.Common.{◌≡◌, ℕ, List, [], ◌++◌, Result, Ok, Err, sym, ap, subst, ◌∙◌, append_assoc}
+use Rattle.std.proofs.Common.{◌≡◌, ℕ, ◌+◌, ◌<◌, List, [], ◌++◌, length, Result, Ok, Err, ◌∷◌, sym, ap, subst, ◌∙◌, append_assoc, length-append, arith}
 use Rattle.std.specs.Prelude.{IsErrAnd}
 use Rattle.plist_engine.specs.declared.faults.WriteFault.{WriteFault}
 use Rattle.plist_engine.specs.declared.faults.WriteFault.TheVariants.{OutOfMemory}
@@ -22,9 +22,9 @@ module _ (done whole rest all items : List ℕ) (p q : State) (split : done ++ w
       Goes_rest (done ++ puts.piece) rest all p (record q { waiting = items }) r tt (Err fault) piece-split piece-goes (Goes_stop {T = T} {U = U} [] rest (record q { waiting = items }) r fault stopped)
 
 -- out of memory for the next piece
-pub no_piece : {T : Type 0} (done whole all items : List ℕ) (p q : State) → done ++ whole ≡ all → Goes {T = Unit {0}} done p q (Ok tt) → Goes {T = T} all p (record q { waiting = items }) (Err (OutOfMemory q.sent))
-no_piece done whole all items p q split goes =
-    Goes_rest done whole all p q (record q { waiting = items }) tt (Err (OutOfMemory q.sent)) split goes (Goes_out whole items q)
+pub no_piece : {T : Type 0} (done whole all items : List ℕ) (p q : State) → 0 < length q.waiting + length whole → done ++ whole ≡ all → Goes {T = Unit {0}} done p q (Ok tt) → Goes {T = T} all p (record q { waiting = items }) (Err (OutOfMemory q.sent))
+no_piece done whole all items p q some split goes =
+    Goes_rest done whole all p q (record q { waiting = items }) tt (Err (OutOfMemory q.sent)) split goes (Goes_out whole items q some)
 
 -- the call returns why another one failed
 pub refused : {T : Type 0} {octets : List ℕ} {p r : State} {fault : WriteFault} (result : Result T WriteFault) → IsErrAnd result (λ e. e ≡ fault) → Goes {T = T} octets p r (Err fault) → Goes octets p r result
@@ -44,3 +44,12 @@ module _ (left middle right all : List ℕ) (is : left ++ (middle ++ right) ≡ 
   pub brackets_closed : {T U V : Type 0} (p q r s : State) (value : T) (done : U) (result : Result V WriteFault) → Goes left p q (Ok value) → Goes middle q r (Ok done) → Goes right r s result → Goes all p s result
   brackets_closed p q r s value done result opened filled goes =
       Goes_rest left (middle ++ right) all p q s value result is opened (Goes_then middle right q r s done result filled goes)
+
+-- out of memory for bytes that were to be buffered
+pub unbuffered : {T : Type 0} (octets items : List ℕ) (p : State) (fault : WriteFault) (result : Result T WriteFault) → IsErrAnd result (λ e. e ≡ fault) → fault ≡ OutOfMemory p.sent → 0 < length octets → Goes octets p (record p { waiting = items }) result
+unbuffered octets items p fault result is out some =
+    refused result is (rw out (Goes_out octets items p (omega (arith, some))))
+
+-- bytes that end with these are some
+pub ended-some : (front : List ℕ) (octet : ℕ) (behind : List ℕ) → 0 < length (front ++ (octet ∷ behind))
+ended-some front octet behind = omega (arith, length-append front (octet ∷ behind))

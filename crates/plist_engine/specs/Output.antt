@@ -50,7 +50,8 @@ pub record Gathers (octets : List ℕ) (old new : State) : Type 0 where
   pub sent : new.sent ≡ old.sent + length gone
   pub failures : new.failures ≡ old.failures
 
--- The call failed after the sink had taken the first `more` of the buffered bytes and these bytes.
+-- The call failed after the sink had taken the first `more` of the buffered bytes and these bytes,
+-- but not all of them.
 pub record Stops (octets : List ℕ) (old new : State) (fault : WriteFault) : Type 0 where
   pub more : ℕ
   pub sent : sent_of fault ≡ old.sent + more

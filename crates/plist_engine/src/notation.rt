@@ -1,8 +1,10 @@
 //! What is written for the parts of a value in a notation.
+ghost use Rattle.std.specs.Prelude.{◌<◌, length};
 ghost use Rattle.plist_value.specs.Scalars.{content_of};
 ghost use Rattle.plist_value.specs.Texts.{units_of};
 ghost use Rattle.plist_engine.specs.Output.{Goes, state_of};
 ghost use Rattle.plist_engine.specs.Notation.{Parts};
+ghost use Rattle.plist_engine.specs.declared.notation.Mark.TheVariants.{TableStart};
 
 use crate::{Output, Sink, WriteFault};
 use plist_value::{ScalarRef, TextRef};
@@ -45,4 +47,7 @@ pub trait Notation<W: Sink> {
     fn write_mark(mark: Mark, out: &mut Output<W>) -> Result<(), WriteFault>
         ensures goes { Goes (parts.mark_text mark)
             (state_of W.Sink out.old) (state_of W.Sink out.new) result };
+
+    // A dictionary that is not empty begins with some bytes.
+    ghost begun: { 0 < length (parts.mark_text TableStart) };
 }

@@ -33,6 +33,9 @@ impl<'a, W: Sink> Output<'a, W> {
         ensures goes { Goes octets.now
             (state_of W.Sink self.old) (state_of W.Sink self.new) result }
     {
+        if octets.is_empty() {
+            return Ok(());
+        }
         let gathered = gather(self.waiting, octets);
         self.grown(gathered)?;
         self.settle()

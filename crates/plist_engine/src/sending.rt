@@ -138,6 +138,7 @@ fn send_objects<W: Sink>(
         objects.now.originals.items objects.now.references.items }
     requires spellable { CanSpellAll width
         (helds_of (octets_of file.now) objects.now.originals.items objects.now.references.items) }
+    requires waits { 0 < length out.old.waiting.now.items }
     requires room { out.old.sent + (length out.old.waiting.now.items
         + length (concat (octets_planned width (octets_of file.now) objects.now))) < 2 ^ 64 - 8 }
     ensures goes { Goes (concat (octets_planned width (octets_of file.now) objects.now))
@@ -175,6 +176,7 @@ pub(crate) fn send_object<W: Sink>(
 ) -> Result<(), WriteFault>
     requires width { IsWidth width }
     requires spellable { CanSpellObject width object.now }
+    requires some { 0 < size }
     requires size { size ≡ length (octets_in_object width object.now) }
     requires room { CanTake (octets_in_object width object.now) (state_of W.Sink out.old) }
     ensures goes { Goes (octets_in_object width object.now)

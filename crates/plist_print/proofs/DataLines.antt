@@ -1,12 +1,13 @@
 -- Data in lines of 32 bytes.
-use Rattle.std.proofs.Common.{◌≡◌, ℕ, suc, ◌+◌, ◌-◌, ◌*◌, ◌/◌, ◌<◌, ◌≤◌, min, List, ◌++◌, length, zero, [], ◌∷◌, take, drop, replicate, refl, sym, ap, ◌∙◌, arith, inl, inr, append_assoc, length-drop}
+use Rattle.std.proofs.Common.{◌≡◌, ℕ, suc, ◌+◌, ◌-◌, ◌*◌, ◌/◌, ◌<◌, ◌≤◌, min, List, ◌++◌, length, zero, [], ◌∷◌, take, drop, replicate, refl, sym, ap, ◌∙◌, arith, inl, inr, append_assoc, length-append, length-drop}
 use Rattle.std.specs.Prelude.{codes, flat_map, nat_le, if◌then◌else◌}
 use Rattle.std.specs.Simd.{first_chunks}
-use Rattle.std.proofs.lemmas.Bool.{cases_lt}
+use Rattle.std.proofs.lemmas.Bool.{cases_lt, cond_both}
 use Rattle.std.proofs.lemmas.List.{take_all, drop_all}
 use Rattle.plist_value.specs.Plist.{bytes}
 use Rattle.plist_value.specs.Digits.{two_digits}
 use Rattle.plist_engine.specs.Output.{Puts}
+use Rattle.plist_print.specs.Units.{printed_data}
 use Rattle.plist_print.specs.Printed.{indent, enclosed, octet_lines, printed_line}
 use Rattle.plist_print.proofs.Compared.{le-tells, le-denied}
 
@@ -34,6 +35,14 @@ lines-joined blanks (suc n) xs =
 -- the first line, and the other lines
 pub lines-first : (blanks xs : List ℕ) → 0 < length xs → octet_lines blanks xs ≡ data_line blanks (take 32 xs) ++ octet_lines blanks (drop 32 xs)
 lines-first blanks xs some = ap (λ n. flat_map (data_line blanks) (first_chunks 32 n xs)) (count-more xs some)
+
+-- there is a line
+pub lines-some : (blanks xs : List ℕ) → 0 < length xs → 0 < length (octet_lines blanks xs)
+lines-some blanks xs some =
+    let whole = ap length (lines-first blanks xs some) ∙ length-append (data_line blanks (take 32 xs)) (octet_lines blanks (drop 32 xs)) in
+    let line = length-append blanks (flat_map two_digits (take 32 xs) ++ codes "\n") in
+    let ended = length-append (flat_map two_digits (take 32 xs)) (codes "\n") in
+    omega (arith, whole, line, ended)
 
 take-least : (xs : List ℕ) → take (min (length xs) 32) xs ≡ take 32 xs
 take-least xs = elim (cases_lt 32 (length xs)) [
@@ -65,6 +74,10 @@ puts-line blanks old new xs front left some is rest put = record {
 
 pub if-told : (xs ys : List ℕ) (a b : ℕ) → a ≤ b → (if nat_le a b then xs else ys) ≡ xs
 if-told xs ys a b h = rw (le-tells a b h) refl
+
+pub short-some : (level : ℕ) (xs : List ℕ) → 0 < length (printed_line level (bytes xs))
+short-some level xs =
+    cond_both (nat_le (length xs) 32) (printed_data xs ++ codes "\n") (enclosed level 60 62 (octet_lines (indent (suc level)) xs)) (λ octets. 0 < length octets) (λ _. omega arith) (λ _. omega arith)
 
 pub if-denied : (xs ys : List ℕ) (a b : ℕ) → b < a → (if nat_le a b then xs else ys) ≡ ys
 if-denied xs ys a b h = rw (le-denied a b h) refl

@@ -81,6 +81,9 @@ pub(crate) fn begin_line<W: Sink>(level: u64, out: &mut Output<W>) -> Result<(),
     ensures goes { Goes (indent level)
         (state_of W.Sink out.old) (state_of W.Sink out.new) result }
 {
+    if level == 0 {
+        return Ok(());
+    }
     let put = put_indent(out.waiting, level);
     out.grown(put)?;
     out.settle()

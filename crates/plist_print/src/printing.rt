@@ -37,7 +37,11 @@ pub fn print_of<W: Sink>(alloc: Global, file: &BinFile, out: &mut W) -> Result<u
 struct Printed;
 
 impl<W: Sink> Notation<W> for Printed {
+    ghost use Rattle.std.proofs.Common.{rules};
+
     ghost parts = { printed_parts };
+
+    ghost begun = { Prim.search rules };
 
     fn write_scalar(scalar: &ScalarRef, level: u64, out: &mut Output<W>) -> Result<(), WriteFault> {
         print_scalar(scalar, level, out)

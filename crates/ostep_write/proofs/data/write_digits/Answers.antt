@@ -1,4 +1,4 @@
-use Rattle.std.proofs.Common.{◌≡◌, ℕ, List, [], ◌∷◌, ◌++◌, length, take, drop, refl, sym, ap, ◌∙◌, arith, rules}
+use Rattle.std.proofs.Common.{◌≡◌, ℕ, ◌<◌, ◌+◌, List, [], ◌∷◌, ◌++◌, length, take, drop, refl, sym, ap, ◌∙◌, arith, rules}
 use Rattle.std.specs.Prelude.{flat_map}
 use Rattle.std.proofs.lemmas.Bool.Decides.{nat_tests}
 use Rattle.std.proofs.lemmas.Grind.{flat_map-append}
@@ -17,10 +17,17 @@ puts old new xs front left n is rest put = record {
   split = ap (flat_map two_digits) (sym (take-append-drop n xs)) ∙ flat_map-append two_digits (take n xs) (drop n xs) ∙ rw (is, rest) refl;
 }
 
+-- there are digits
+digits-some : (xs : List ℕ) → 0 < length xs → 0 < length (flat_map two_digits xs)
+digits-some [] some = absurd (omega arith)
+digits-some (x ∷ xs) some = omega arith
+
 pub returns-in_err-grown : goal.returns-in_err-grown
 returns-in_err-grown g c =
     let l = c.loop-left in
-    record { goes = refused c.from_residual.result c.from_residual.ensures.1 (rw (c.in_err-grown.ensures.refused.1) (no_piece l.invariant.done (flat_map two_digits l.left.now) (flat_map two_digits c.args.octets.now) c.put_digits-put.new.out.items (state_of g.W.Sink c.args.out.now) (state_of g.W.Sink l.out) l.invariant.split l.invariant.goes)) }
+    let left : 0 < length l.left.now = first_of (search rules, grind (arith, nat_tests)) in
+    let some = digits-some l.left.now left in
+    record { goes = refused c.from_residual.result c.from_residual.ensures.1 (rw (c.in_err-grown.ensures.refused.1) (no_piece l.invariant.done (flat_map two_digits l.left.now) (flat_map two_digits c.args.octets.now) c.put_digits-put.new.out.items (state_of g.W.Sink c.args.out.now) (state_of g.W.Sink l.out) (omega (arith, some)) l.invariant.split l.invariant.goes)) }
 
 pub returns-in_err-settle : goal.returns-in_err-settle
 returns-in_err-settle g c =

@@ -1,5 +1,7 @@
-use Rattle.std.proofs.Common.{◌≡◌, ◌≤◌, [], ◌++◌, drop, length, sym, ap, ◌∙◌, arith}
+use Rattle.std.proofs.Common.{◌≡◌, ℕ, ◌<◌, ◌≤◌, ◌+◌, List, [], ◌∷◌, ◌++◌, eqb, drop, length, sym, ap, ◌∙◌, arith, length-append, length-drop}
 use Rattle.std.specs.Prelude.{flat_map}
+use Rattle.std.specs.Int.{is_in_range}
+use Rattle.std.proofs.lemmas.Bool.{cond_both}
 use Rattle.std.proofs.lemmas.List.{append-nil, drop_all}
 use Rattle.plist_value.specs.Texts.{units_of}
 use Rattle.plist_engine.specs.Output.{state_of}
@@ -8,11 +10,27 @@ use Rattle.plist_engine.proofs.Steps.{piece-split, piece-settled, piece-stops, n
 use Rattle.ostep_text.specs.Written.{quoted_unit}
 use Rattle.ostep_write.proofs.strings.write_units.Goals as goal
 
+-- each unit is written in some bytes
+unit-some : (unit : ℕ) → 0 < length (quoted_unit unit)
+unit-some unit =
+    cond_both (eqb unit 34) _ _ (λ os. 0 < length os) (λ _. omega arith) (λ _.
+    cond_both (eqb unit 92) _ _ (λ os. 0 < length os) (λ _. omega arith) (λ _.
+    cond_both (eqb unit 10) _ _ (λ os. 0 < length os) (λ _. omega arith) (λ _.
+    cond_both (eqb unit 9) _ _ (λ os. 0 < length os) (λ _. omega arith) (λ _.
+    cond_both (eqb unit 13) _ _ (λ os. 0 < length os) (λ _. omega arith) (λ _.
+    cond_both (is_in_range 0x20 0x7e unit) _ _ (λ os. 0 < length os) (λ _. omega arith) (λ _. omega arith))))))
+
+units-some : (us : List ℕ) → 0 < length us → 0 < length (flat_map quoted_unit us)
+units-some [] some = absurd (omega arith)
+units-some (u ∷ us) some = omega (arith, unit-some u, length-append (quoted_unit u) (flat_map quoted_unit us))
+
 pub returns-in_err-next : goal.returns-in_err-next
 returns-in_err-next g c =
     let us = units_of c.args.text.now in
     let l = c.loop-place in
-    record { goes = refused c.from_residual.result c.from_residual.ensures.1 (rw (c.in_err-next.ensures.refused.1) (no_piece l.invariant.done (flat_map quoted_unit (drop l.place us)) (flat_map quoted_unit us) c.put_some-put.new.out.items (state_of g.W.Sink c.args.out.now) (state_of g.W.Sink l.out) l.invariant.split l.invariant.goes)) }
+    let left : 0 < length (drop l.place us) = omega (arith, c.loop-place-test.true, length-drop l.place us) in
+    let some = units-some (drop l.place us) left in
+    record { goes = refused c.from_residual.result c.from_residual.ensures.1 (rw (c.in_err-next.ensures.refused.1) (no_piece l.invariant.done (flat_map quoted_unit (drop l.place us)) (flat_map quoted_unit us) c.put_some-put.new.out.items (state_of g.W.Sink c.args.out.now) (state_of g.W.Sink l.out) (omega (arith, some)) l.invariant.split l.invariant.goes)) }
 
 pub returns-in_err-settle : goal.returns-in_err-settle
 returns-in_err-settle g c =

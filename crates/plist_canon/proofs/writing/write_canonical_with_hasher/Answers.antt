@@ -4,6 +4,7 @@ use Rattle.std.proofs.lemmas.Result.{err_from_is_err_and}
 use Rattle.plist_object.specs.Spelled.{IsBinary}
 use Rattle.plist_object.specs.Views.{octets_of}
 use Rattle.plist_value.specs.View.{view}
+use Rattle.plist_engine.proofs.FileSteps.{canon-some}
 use Rattle.plist_canon.proofs.writing.write_canonical_with_hasher.Goals as goal
 
 pub returns-clause-pieces : goal.returns-clause-pieces
@@ -16,4 +17,4 @@ returns-clause-pieces g c =
 pub returns-in_err-octets-clause-written : goal.returns-in_err-octets-clause-written
 returns-in_err-octets-clause-written g c =
     let e = err_from_is_err_and c.from_residual.result c.from_residual.ensures.1 in
-    rw (e.1, e.2) (record { count = tt; whole = tt; within = omega arith; front = (Appends-nil (g.W.Sink.taken c.args.out.now), refl) })
+    rw (e.1, e.2) (record { count = tt; whole = tt; within = omega (arith, canon-some (view c.args.value.now)); front = (Appends-nil (g.W.Sink.taken c.args.out.now), refl) })

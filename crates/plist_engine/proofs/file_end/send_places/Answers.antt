@@ -1,8 +1,10 @@
-use Rattle.std.proofs.Common.{◌≡◌, ℕ, ◌+◌, ◌<◌, ◌≤◌, ◌^◌, List, ◌∙◌, [], ◌++◌, length, drop, get_or, refl, sym, ap, append_assoc, arith}
+use Rattle.std.proofs.Common.{◌≡◌, ℕ, ◌+◌, ◌<◌, ◌≤◌, ◌^◌, List, ◌∙◌, [], ◌++◌, length, drop, get_or, refl, sym, ap, append_assoc, length-append, arith}
 use Rattle.std.proofs.lemmas.List.{get_or_default, drop_more, drop_all, append-nil}
+use Rattle.std.proofs.lemmas.Bool.Decides.{nat_tests}
 use Rattle.std.proofs.lemmas.Result.{err_from_is_err_and}
 use Rattle.byteorder.specs.Endian.{big_bytes}
 use Rattle.byteorder.specs.Numbers.{length-bytes_high_first}
+use Rattle.plist_object.specs.Sizes.{IsWidth}
 use Rattle.plist_object.specs.Spelling.{references}
 use Rattle.plist_engine.specs.Output.{State, state_of}
 use Rattle.plist_engine.proofs.Going.{Goes_then, Goes_last, Goes_rest, Goes_same, Goes_stop, Goes_put, Goes_out, room_then, short_then, short_stop, short_put}
@@ -20,6 +22,10 @@ entries-next width places i place done all is h split =
 entries-end : (width : ℕ) (places : List ℕ) (i : ℕ) (done all : List ℕ) → length places ≤ i → done ++ references width (drop i places) ≡ all → done ≡ all
 entries-end width places i done all past split =
     sym (append-nil done) ∙ ap (λ xs. done ++ references width xs) (sym (drop_all i places past)) ∙ split
+
+-- a width is not 0
+wide : (width : ℕ) → IsWidth width → 0 < width
+wide width is = grind (arith, nat_tests)
 
 pub make_room-requires : goal.make_room-requires
 make_room-requires g c =
@@ -58,7 +64,14 @@ returns-in_err-grown-clause-goes g c =
     let r = state_of g.W.Sink c.make_room.new.self in
     let end : State = record r { waiting = c.put_number-put.new.out.items } in
     let kept = Goes_last l.invariant.done p q r tt _ l.invariant.goes c.in_ok-make_room.ensures.goes in
-    rw (e.1, e.2, c.in_err-grown.ensures.refused.1) (Goes_rest l.invariant.done rest (references c.args.width c.args.places.now) p r end _ _ l.invariant.split kept (Goes_out rest c.put_number-put.new.out.items r))
+    let places = c.args.places.now in
+    let i = l.place-index in
+    let place = get_or places i 0 in
+    let is : place ≡ get_or places i place = sym (get_or_default places i place 0 c.loop-place-test.true) in
+    let later = references c.args.width (drop (i + 1) places) in
+    let long = ap length (entries-more c.args.width places i place is c.loop-place-test.true) ∙ length-append (big_bytes c.args.width place) later in
+    let some = wide c.args.width c.requires.width in
+    rw (e.1, e.2, c.in_err-grown.ensures.refused.1) (Goes_rest l.invariant.done rest (references c.args.width c.args.places.now) p r end _ _ l.invariant.split kept (Goes_out rest c.put_number-put.new.out.items r (omega (arith, long, some, length-bytes_high_first c.args.width place))))
 
 pub returns-in_err-grown-clause-pieces : goal.returns-in_err-grown-clause-pieces
 returns-in_err-grown-clause-pieces g c =

@@ -18,7 +18,8 @@ returns-in_err-grown-clause-goes g c =
     let octets = trailer_octets c.args.count c.args.place in
     let q = state_of g.W.Sink c.make_room.new.self in
     let items = c.put_trailer-put.new.out.items in
-    rw (e.1, e.2, c.in_err-grown.ensures.refused.1) (Goes_then [] octets (state_of g.W.Sink c.args.out.now) q (record q { waiting = items }) _ _ c.in_ok-make_room.ensures.goes (Goes_out {T = Unit {0}} octets items q))
+    let digits = length-trailer_octets c.args.count c.args.place in
+    rw (e.1, e.2, c.in_err-grown.ensures.refused.1) (Goes_then [] octets (state_of g.W.Sink c.args.out.now) q (record q { waiting = items }) _ _ c.in_ok-make_room.ensures.goes (Goes_out {T = Unit {0}} octets items q (omega (arith, digits))))
 
 pub returns-in_err-grown-clause-pieces : goal.returns-in_err-grown-clause-pieces
 returns-in_err-grown-clause-pieces g c =

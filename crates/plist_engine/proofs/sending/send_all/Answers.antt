@@ -35,6 +35,9 @@ send_objects-requires-clause-spellable g c =
     let is = width g (goal.at.send_objects-requires-clause-spellable g c).After-width_of-width in
     subst (λ (w : ℕ). CanSpellAll w (helds_of (octets_of c.args.file.now) c.args.objects.originals.items c.args.objects.references.items)) (sym is) c.requires.spellable
 
+pub send_objects-requires-clause-waits : goal.send_objects-requires-clause-waits
+send_objects-requires-clause-waits g c = let begun = ap length c.requires.begun in omega (arith, begun)
+
 pub send_objects-requires-clause-room : goal.send_objects-requires-clause-room
 send_objects-requires-clause-room g c =
     let is = ap (λ os. length (concat os)) (planned g (goal.at.send_objects-requires-clause-room g c).After-width_of-width) in

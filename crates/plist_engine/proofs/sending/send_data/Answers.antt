@@ -1,8 +1,16 @@
-use Rattle.std.proofs.Common.{length, arith}
+use Rattle.std.proofs.Common.{◌++◌, length, length-append, arith}
 use Rattle.plist_object.specs.Spelling.{head}
-use Rattle.plist_engine.proofs.Going.{put-length}
+use Rattle.plist_engine.proofs.Going.{Goes_out, put-length}
+use Rattle.plist_engine.specs.Output.{state_of}
+use Rattle.plist_engine.proofs.Steps.{refused}
 use Rattle.plist_engine.proofs.Sizes.{head-most}
 use Rattle.plist_engine.proofs.sending.send_data.Goals as goal
+
+pub returns-in_err-grown-clause-goes : goal.returns-in_err-grown-clause-goes
+returns-in_err-grown-clause-goes g c =
+    let octets = c.args.octets.now in
+    let long = length-append (head 4 (length octets)) octets in
+    refused c.from_residual.result c.from_residual.ensures.1 (rw (c.in_err-grown.ensures.refused.1) (Goes_out (head 4 (length octets) ++ octets) c.put_data_head-put.new.out.items (state_of g.W.Sink c.args.out.now) (omega (arith, long, c.requires.long))))
 
 pub returns-clause-pieces : goal.returns-clause-pieces
 returns-clause-pieces g c = λ most allows room before.

@@ -38,7 +38,7 @@ returns-in_ok-make_room-in_default-clause-goes g c =
     let octets = octets_in_object c.args.width c.args.object.now in
     let q = state_of g.W.Sink c.make_room-in_default.new.self in
     let items = c.put_object-put.new.out.items in
-    Goes_then [] octets (state_of g.W.Sink c.args.out.now) q (record q { waiting = items }) _ c.grown.result c.in_ok-make_room-in_default.ensures.goes (Goes_grown octets items q c.put_object-put.result c.grown.result c.put_object-put.ensures c.grown.ensures.value c.grown.ensures.refused)
+    Goes_then [] octets (state_of g.W.Sink c.args.out.now) q (record q { waiting = items }) _ c.grown.result c.in_ok-make_room-in_default.ensures.goes (Goes_grown octets items q c.put_object-put.result c.grown.result (omega (arith, c.requires.some, c.requires.size)) c.put_object-put.ensures c.grown.ensures.value c.grown.ensures.refused)
 
 pub returns-in_ok-make_room-in_default-clause-pieces : goal.returns-in_ok-make_room-in_default-clause-pieces
 returns-in_ok-make_room-in_default-clause-pieces g c = λ most allows fits before.

@@ -5,11 +5,12 @@ use Rattle.std.proofs.lemmas.Result.{err_from_is_err_and}
 use Rattle.plist_object.specs.Views.{octets_of}
 use Rattle.plist_object.specs.Files.{starts}
 use Rattle.plist_engine.specs.Pieces.{CanSpellAll, octets_in_object}
-use Rattle.plist_engine.specs.Renumbering.{AreSound, helds_of, octets_for, octets_planned}
+use Rattle.plist_engine.specs.Renumbering.{AreSound, held_in, helds_of, renumbered, octets_for, octets_planned}
 use Rattle.plist_engine.specs.Sending.{Allows}
 use Rattle.plist_engine.specs.Output.{state_of}
 use Rattle.plist_engine.proofs.Going.{Goes_out, Goes_put, Goes_then, Goes_rest, Goes_stop, Goes_same, room_then}
 use Rattle.plist_engine.proofs.ObjectSteps.{sound-next, Step, step, measured-next, none-left, split-next, split-end, placed-next, placed-end}
+use Rattle.plist_engine.proofs.Sizes.{spelling-some}
 use Rattle.plist_engine.proofs.sending.send_objects.Given as given
 use Rattle.plist_engine.proofs.sending.send_objects.Goals as goal
 use Rattle.plist_engine.proofs.sending.send_objects.Goals.{After-renumbered_object}
@@ -48,6 +49,12 @@ pub send_object-requires-clause-spellable : goal.send_object-requires-clause-spe
 send_object-requires-clause-spellable g c =
     let one = next g (goal.at.send_object-requires-clause-spellable g c).After-renumbered_object in
     c.renumbered_object.ensures.spellable c.args.width one.here
+
+pub send_object-requires-clause-some : goal.send_object-requires-clause-some
+send_object-requires-clause-some g c =
+    let spelled = ap length (c.renumbered_object.ensures.spelled c.args.width) in
+    let some = spelling-some c.args.width (renumbered (held_in (octets_of c.args.file.now) c.from.result) c.loop-original.numbers.now) in
+    omega (arith, c.object_length-size.ensures, spelled, some)
 
 pub send_object-requires-clause-room : goal.send_object-requires-clause-room
 send_object-requires-clause-room g c =
@@ -148,7 +155,7 @@ pub returns-in_err-places-clause-goes : goal.returns-in_err-places-clause-goes
 returns-in_err-places-clause-goes g c =
     let e = err_from_is_err_and c.from_residual.result c.from_residual.ensures.1 in
     let p = state_of g.W.Sink c.args.out.now in
-    rw (e.1, e.2, c.in_err-places.ensures.refused.1) (Goes_out (concat (octets_planned c.args.width (octets_of c.args.file.now) c.args.objects.now)) p.waiting p)
+    rw (e.1, e.2, c.in_err-places.ensures.refused.1) (Goes_out (concat (octets_planned c.args.width (octets_of c.args.file.now) c.args.objects.now)) p.waiting p (omega (arith, c.requires.waits)))
 
 pub returns-in_err-places-clause-pieces : goal.returns-in_err-places-clause-pieces
 returns-in_err-places-clause-pieces g c = λ most allows fits before.

@@ -3,12 +3,13 @@ use Rattle.std.proofs.KnownBytes.{Appends-nil}
 use Rattle.std.proofs.lemmas.Result.{err_from_is_err_and}
 use Rattle.plist_object.specs.Views.{octets_of}
 use Rattle.plist_engine.proofs.Finding.{are-objects, few-objects, sound-objects, spellable-objects, is-canon, short-objects}
+use Rattle.plist_engine.proofs.FileSteps.{canon-some}
 use Rattle.plist_engine.proofs.sending.write_canonical_of.Goals as goal
 
 pub returns-in_err-objects-clause-written : goal.returns-in_err-objects-clause-written
 returns-in_err-objects-clause-written g c = λ v binary.
     let e = err_from_is_err_and c.from_residual.result c.from_residual.ensures.1 in
-    rw (e.1, e.2) (record { count = tt; whole = tt; within = omega arith; front = (Appends-nil (g.W.Sink.taken c.args.out.now), refl) })
+    rw (e.1, e.2) (record { count = tt; whole = tt; within = omega (arith, canon-some v); front = (Appends-nil (g.W.Sink.taken c.args.out.now), refl) })
 
 pub send_file-requires-clause-few : goal.send_file-requires-clause-few
 send_file-requires-clause-few g c =

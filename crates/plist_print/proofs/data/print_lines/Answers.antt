@@ -1,10 +1,11 @@
-use Rattle.std.proofs.Common.{◌≡◌, ℕ, List, [], ◌∷◌, ◌++◌, length, refl, sym, ap, ◌∙◌, arith, rules}
+use Rattle.std.proofs.Common.{◌≡◌, ℕ, ◌<◌, ◌+◌, List, [], ◌∷◌, ◌++◌, length, refl, sym, ap, ◌∙◌, arith, rules}
 use Rattle.std.proofs.lemmas.Bool.Decides.{nat_tests}
 use Rattle.std.proofs.lemmas.List.{append-nil}
 use Rattle.std.proofs.lemmas.Result.{err_from_is_err_and}
 use Rattle.plist_engine.specs.Output.{state_of}
 use Rattle.plist_engine.proofs.Going.{Goes_same}
 use Rattle.plist_print.specs.Printed.{indent, octet_lines}
+use Rattle.plist_print.proofs.DataLines.{lines-some}
 use Rattle.plist_engine.proofs.Steps.{piece-split, piece-settled, piece-stops, no_piece}
 use Rattle.plist_print.proofs.data.print_lines.Goals as goal
 
@@ -16,7 +17,9 @@ returns-in_err-behind g c =
     let p = state_of g.W.Sink c.args.out.now in
     let q = state_of g.W.Sink l.out in
     let items = c.put_front-put.new.out.items in
-    rw (e.1, e.2, c.in_err-behind.ensures.refused.1) (record { goes = no_piece l.invariant.done (octet_lines (indent c.args.level) l.left.now) all items p q l.invariant.split l.invariant.goes })
+    let left : 0 < length l.left.now = first_of (search rules, grind (arith, nat_tests)) in
+    let some = lines-some (indent c.args.level) l.left.now left in
+    rw (e.1, e.2, c.in_err-behind.ensures.refused.1) (record { goes = no_piece l.invariant.done (octet_lines (indent c.args.level) l.left.now) all items p q (omega (arith, some)) l.invariant.split l.invariant.goes })
 
 pub returns-in_err-settle : goal.returns-in_err-settle
 returns-in_err-settle g c =

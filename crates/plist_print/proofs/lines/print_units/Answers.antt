@@ -1,4 +1,4 @@
-use Rattle.std.proofs.Common.{◌≡◌, ◌≤◌, [], ◌++◌, drop, length, sym, ap, ◌∙◌, arith}
+use Rattle.std.proofs.Common.{◌≡◌, ◌≤◌, [], ◌++◌, drop, length, sym, ap, ◌∙◌, append_assoc, arith}
 use Rattle.std.specs.Prelude.{codes}
 use Rattle.std.proofs.lemmas.List.{append-nil, drop_all}
 use Rattle.std.proofs.lemmas.Result.{err_from_is_err_and}
@@ -6,7 +6,7 @@ use Rattle.plist_value.specs.Texts.{units_of}
 use Rattle.plist_engine.specs.Output.{state_of}
 use Rattle.plist_engine.proofs.Going.{Goes_then, Goes_stop, Goes_same}
 use Rattle.plist_print.specs.Units.{printed_units}
-use Rattle.plist_engine.proofs.Steps.{piece-split, piece-settled, piece-stops, no_piece}
+use Rattle.plist_engine.proofs.Steps.{piece-split, piece-settled, piece-stops, no_piece, ended-some}
 use Rattle.plist_print.proofs.lines.print_units.Goals as goal
 
 pub returns-in_err-next : goal.returns-in_err-next
@@ -17,7 +17,7 @@ returns-in_err-next g c =
     let p = state_of g.W.Sink c.args.out.now in
     let q = state_of g.W.Sink l.out in
     let items = c.put_some-put.new.out.items in
-    rw (e.1, e.2, c.in_err-next.ensures.refused.1) (record { goes = Goes_stop {T = Unit {0}} (printed_units us) (codes "\"") p (record q { waiting = items }) _ (no_piece l.invariant.done (printed_units (drop l.place us)) (printed_units us) items p q l.invariant.split l.invariant.goes) })
+    rw (e.1, e.2, c.in_err-next.ensures.refused.1) (record { goes = no_piece l.invariant.done (printed_units (drop l.place us) ++ codes "\"") (printed_units us ++ codes "\"") items p q (omega (arith, ended-some (printed_units (drop l.place us)) 34 [])) (sym (append_assoc l.invariant.done (printed_units (drop l.place us)) (codes "\"")) ∙ ap (λ os. os ++ codes "\"") l.invariant.split) l.invariant.goes })
 
 pub returns-in_err-settle : goal.returns-in_err-settle
 returns-in_err-settle g c =

@@ -1,4 +1,4 @@
-use Rattle.std.proofs.Common.{◌≡◌, ℕ, ◌+◌, ◌-◌, ◌/◌, ◌<◌, ◌≤◌, [], length, rules, refl, sym, ap, subst, ◌∙◌, arith}
+use Rattle.std.proofs.Common.{◌≡◌, ℕ, ◌+◌, ◌-◌, ◌/◌, ◌<◌, ◌≤◌, [], ◌++◌, length, length-append, rules, refl, sym, ap, subst, ◌∙◌, arith}
 use Rattle.std.proofs.lemmas.Bool.Decides.{nat_tests}
 use Rattle.std.proofs.lemmas.List.{append-nil}
 use Rattle.std.proofs.lemmas.Result.{err_from_is_err_and}
@@ -154,7 +154,13 @@ pub table-returns-in_err-references-clause-goes : goal.table-returns-in_err-refe
 table-returns-in_err-references-clause-goes g t c = λ rows ps spell.
     let p = state_of g.W.Sink c.args.out.now in
     let e = err_from_is_err_and c.from_residual.result c.from_residual.ensures.1 in
-    rw (e.1, e.2, c.in_err-references.ensures.refused.1) (Goes_out (text_in g.N.Notation.parts c.args.level (table ps)) p.waiting p)
+    let parts = g.N.Notation.parts in
+    let keys = numbers_of c.args.keys.now in
+    let some : 0 < length keys = first_of (search rules, grind (arith, nat_tests)) in
+    let is = ap length (table_filled parts c.args.level (octets_of c.args.self.now.file) keys (numbers_of c.args.values.now) rows ps c.requires.spell.as_many spell some) in
+    let long = length-append (parts.mark_text TableStart) (pairs_in parts (c.args.level + 1) ps ++ last_line parts c.args.level TableEnd) in
+    let begun = g.met.N.Notation.begun in
+    rw (e.1, e.2, c.in_err-references.ensures.refused.1) (Goes_out (text_in parts c.args.level (table ps)) p.waiting p (omega (arith, is, long, begun)))
 
 pub table-returns-in_err-write_mark-clause-goes : goal.table-returns-in_err-write_mark-clause-goes
 table-returns-in_err-write_mark-clause-goes g t c = λ rows ps spell.
