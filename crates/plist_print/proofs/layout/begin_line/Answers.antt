@@ -1,4 +1,4 @@
-use Rattle.std.proofs.Common.{◌*◌, ◌<◌, length, min, replicate, rules, arith}
+use Rattle.std.proofs.Common.{ℕ, ◌*◌, ◌<◌, length, min, replicate, rules, arith}
 use Rattle.std.proofs.lemmas.Bool.Decides.{nat_tests}
 use Rattle.std.proofs.lemmas.List.{length-replicate}
 use Rattle.plist_engine.specs.Output.{state_of}
@@ -9,5 +9,5 @@ use Rattle.plist_print.proofs.layout.begin_line.Goals as goal
 pub returns-in_err-grown : goal.returns-in_err-grown
 returns-in_err-grown g c =
     let deep : 0 < c.args.level = first_of (search rules, grind (arith, nat_tests)) in
-    let long = length-replicate (2 * min c.args.level 32) 32 in
+    let long = length-replicate {A = ℕ} (2 * min c.args.level 32) 32 in
     record { goes = unbuffered (indent c.args.level) c.put_indent-put.new.out.items (state_of g.W.Sink c.args.out.now) _ c.from_residual.result c.from_residual.ensures.1 c.in_err-grown.ensures.refused.1 (omega (arith, deep, long)) }
