@@ -17,7 +17,8 @@ pub record AreLeft (octets : List ℕ) (cursor : Cursor) (rest : List Lexeme) : 
   pub are : lexemes others ≡ rest
 
 -- the token is the first of these, and the others are left at the cursor
-pub record IsFirst (octets : List ℕ) (first : Lexeme) (tokens : List Lexeme) (cursor : Cursor) : Type 0 where
+pub record IsFirst (octets : List ℕ) (first : Lexeme) (tokens : List Lexeme)
+    (cursor : Cursor) : Type 0 where
   pub rest : List Lexeme
   pub is : tokens ≡ first ∷ rest
   pub left : AreLeft octets cursor rest

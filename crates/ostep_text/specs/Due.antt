@@ -2,7 +2,8 @@
 -- with it, and the state of the machine.
 use Rattle.std.specs.Prelude.{◌≡◌, false, List, [], ◌∷◌}
 use Rattle.plist_value.specs.Plist.{Plist, Items, Pairs}
-use Rattle.ostep_lex.specs.Lexeme.{Lexeme, paren_open, paren_close, brace_open, brace_close, semicolon}
+use Rattle.ostep_lex.specs.Lexeme.{Lexeme, paren_open, paren_close, brace_open, brace_close}
+use Rattle.ostep_lex.specs.Lexeme.{semicolon}
 use Rattle.ostep_text.specs.Phrase.{Phrase, ItemsPhrase, RowsPhrase}
 use Rattle.ostep_text.specs.Sorting.{AreSorted}
 use Rattle.ostep_text.specs.Begun.{Before, ValueAt, RowsAt, begins_value}
@@ -21,8 +22,10 @@ pub record IsOpen (whole : Front) : Type 0 where
 pub record ValueDue (whole : Front) (b : Before) (a : Around) (first : Lexeme) : Type 0 where
   pub at : (rest : List Lexeme) → ValueAt (whole rest) b rest
   pub closing : List Lexeme
-  pub closes : (tokens : List Lexeme) (v : Plist) → Phrase tokens v closing → IsPhrase (whole tokens)
-  pub leads : (rest : List Lexeme) → runs Machine.front (whole (first ∷ rest)) ≡ runs (begun a first) rest
+  pub closes : (tokens : List Lexeme) (v : Plist) → Phrase tokens v closing
+      → IsPhrase (whole tokens)
+  pub leads : (rest : List Lexeme) → runs Machine.front (whole (first ∷ rest))
+      ≡ runs (begun a first) rest
   pub waits : begins_value (first ∷ []) ≡ false → accepts (runs Machine.front (whole [])) ≡ false
 
 -- the value of a row, after its `=`
@@ -30,23 +33,27 @@ pub record RowValueDue (whole : Front) (b : Before) (t : Around) : Type 0 where
   pub table : IsTable t
   pub at : (rest : List Lexeme) → ValueAt (whole rest) b rest
   pub closing : List Lexeme
-  pub closes : (tokens : List Lexeme) (v : Plist) → Phrase tokens v (semicolon ∷ closing) → IsPhrase (whole tokens)
+  pub closes : (tokens : List Lexeme) (v : Plist) → Phrase tokens v (semicolon ∷ closing)
+      → IsPhrase (whole tokens)
   pub leads : (rest : List Lexeme) → runs Machine.front (whole rest) ≡ runs (Machine.due t) rest
 
 -- the items of an array, after its parenthesis
 pub record ListDue (whole : Front) (b : Before) (a : Around) : Type 0 where
   pub at : (rest : List Lexeme) → ValueAt (whole rest) b (paren_open ∷ rest)
   pub closing : List Lexeme
-  pub closes : (tokens : List Lexeme) (vs : Items) → ItemsPhrase tokens vs (paren_close ∷ closing) → IsPhrase (whole tokens)
+  pub closes : (tokens : List Lexeme) (vs : Items) → ItemsPhrase tokens vs (paren_close ∷ closing)
+      → IsPhrase (whole tokens)
   pub leads : (rest : List Lexeme) → runs Machine.front (whole rest) ≡ runs (Machine.items a) rest
 
 -- the rows of a dictionary, after its brace
 pub record TableDue (whole : Front) (b : Before) (a : Around) : Type 0 where
   pub at : (rest : List Lexeme) → ValueAt (whole rest) b (brace_open ∷ rest)
   pub closing : List Lexeme
-  pub closes : (tokens : List Lexeme) (rows pairs : Pairs) → RowsPhrase tokens rows (brace_close ∷ closing) → AreSorted rows pairs
+  pub closes : (tokens : List Lexeme) (rows pairs : Pairs)
+      → RowsPhrase tokens rows (brace_close ∷ closing) → AreSorted rows pairs
       → IsPhrase (whole tokens)
-  pub leads : (rest : List Lexeme) → runs Machine.front (whole rest) ≡ runs (Machine.rows (Machine.in_braces a)) rest
+  pub leads : (rest : List Lexeme)
+      → runs Machine.front (whole rest) ≡ runs (Machine.rows (Machine.in_braces a)) rest
 
 -- a row, after other rows of a dictionary, in braces or without
 pub record RowDue (whole : Front) (b : Before) (t : Around) (rows pairs : Pairs) : Type 0 where
@@ -56,6 +63,7 @@ pub record RowDue (whole : Front) (b : Before) (t : Around) (rows pairs : Pairs)
   pub spells : (rest : List Lexeme) → RowsPhrase (inside rest) rows rest
   pub sorted : AreSorted rows pairs
   pub ends : List Lexeme
-  pub closes : (tokens : List Lexeme) (all others : Pairs) → RowsPhrase (inside tokens) all ends → AreSorted all others
+  pub closes : (tokens : List Lexeme) (all others : Pairs) → RowsPhrase (inside tokens) all ends
+      → AreSorted all others
       → IsPhrase (whole tokens)
   pub leads : (rest : List Lexeme) → runs Machine.front (whole rest) ≡ runs (Machine.rows t) rest

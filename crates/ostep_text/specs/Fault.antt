@@ -7,7 +7,14 @@ use Rattle.plist_value.specs.declared.refusals.Report.{Report}
 use Rattle.ostep_lex.specs.declared.fault.LexFault.{LexFault}
 use Rattle.ostep_lex.specs.declared.fault.LexFault.TheVariants as tokens
 use Rattle.ostep_text.specs.declared.fault.TextFault.{TextFault}
-use Rattle.ostep_text.specs.declared.fault.TextFault.TheVariants.{BadUtf8, XmlForm, UnexpectedCharacter, UnclosedString, UnclosedComment, BadEscape, OctalRange, OddData, BadData, BadUtf16, DuplicateKey, TooDeep, TooManyNodes, TooMuchPayload, Expected, Junk, OutOfMemory}
+use Rattle.ostep_text.specs.declared.fault.TextFault.TheVariants.{BadUtf8, XmlForm}
+use Rattle.ostep_text.specs.declared.fault.TextFault.TheVariants.{UnexpectedCharacter}
+use Rattle.ostep_text.specs.declared.fault.TextFault.TheVariants.{UnclosedString, UnclosedComment}
+use Rattle.ostep_text.specs.declared.fault.TextFault.TheVariants.{BadEscape, OctalRange, OddData}
+use Rattle.ostep_text.specs.declared.fault.TextFault.TheVariants.{BadData, BadUtf16, DuplicateKey}
+use Rattle.ostep_text.specs.declared.fault.TextFault.TheVariants.{TooDeep, TooManyNodes}
+use Rattle.ostep_text.specs.declared.fault.TextFault.TheVariants.{TooMuchPayload, Expected, Junk}
+use Rattle.ostep_text.specs.declared.fault.TextFault.TheVariants.{OutOfMemory}
 
 -- a fault of the tokens as one of the text
 abbrev pub of_tokens : LexFault → TextFault

@@ -15,7 +15,8 @@ OneValue = (octets : List ℕ) (v w : Plist) → IsText octets v → IsText octe
 
 -- bytes of which a fault is true are not a text of any value
 abbrev pub FaultyIsNoText : Type 0
-FaultyIsNoText = (octets : List ℕ) (fault : TextFault) → Stands octets fault → ¬ (fault ≡ OutOfMemory) → IsNoText octets
+FaultyIsNoText = (octets : List ℕ) (fault : TextFault) → Stands octets fault
+    → ¬ (fault ≡ OutOfMemory) → IsNoText octets
 
 -- the bytes are a text of the value, are not read as a binary file, and are within the bound on
 -- their length
@@ -26,4 +27,5 @@ pub record IsShortText (octets : List ℕ) (v : Plist) : Type 0 where
 
 -- the text written for a value within the limits is a text of it
 abbrev pub WrittenIsText : Type 0
-WrittenIsText = (v : Plist) (octets : List ℕ) → IsPlist v → Fits v → text_of v ≡ Some octets → IsShortText octets v
+WrittenIsText = (v : Plist) (octets : List ℕ) → IsPlist v → Fits v → text_of v ≡ Some octets
+    → IsShortText octets v

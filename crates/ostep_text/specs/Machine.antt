@@ -1,7 +1,8 @@
 -- A state machine that follows the kinds of the tokens of a text. It does not look whether keys are
 -- distinct, so it accepts every phrase, and more.
 use Rattle.std.specs.Prelude.{Bool, true, false, List, [], ◌∷◌}
-use Rattle.ostep_lex.specs.Lexeme.{Lexeme, brace_open, brace_close, paren_open, paren_close, comma, semicolon, equals, text as string, octets as data_token}
+use Rattle.ostep_lex.specs.Lexeme.{Lexeme, brace_open, brace_close, paren_open, paren_close, comma}
+use Rattle.ostep_lex.specs.Lexeme.{semicolon, equals, text as string, octets as data_token}
 
 -- what encloses a value: nothing, an array, a dictionary, or a dictionary without braces
 pub data Around : Type 0 where

@@ -6,11 +6,13 @@ use Rattle.ostep_text.specs.Text.{IsText}
 -- each node means the item at its place
 pub data MeanItems {N : Type 0} (means : N → Plist → Type 0) : List N → Items → Type 0 where
   no_node : MeanItems means [] no_items
-  a_node : {node : N} {nodes : List N} {v : Plist} {vs : Items} → means node v → MeanItems means nodes vs
+  a_node : {node : N} {nodes : List N} {v : Plist} {vs : Items} → means node v
+      → MeanItems means nodes vs
       → MeanItems means (node ∷ nodes) (item v vs)
 
 -- the nodes mean something of which both hold: what it takes of the limits, and what was read
-pub record IsBuilt {N V : Type 0} (means : N → V → Type 0) (nodes : N) (Takes Reads : V → Type 0) : Type 0 where
+pub record IsBuilt {N V : Type 0} (means : N → V → Type 0) (nodes : N)
+    (Takes Reads : V → Type 0) : Type 0 where
   pub meant : V
   pub means_it : means nodes meant
   pub taken : Takes meant

@@ -20,11 +20,13 @@ Known = List Placed → Type 0
 pub record ReadsOn (known : Known) (tokens : List Placed) (inside : Front) : Type 0 where
   pub all : List Placed
   pub has : known all
-  pub follow : (whole : Front) → AreBefore tokens whole → AreBefore all (λ rest. whole (inside rest))
+  pub follow : (whole : Front) → AreBefore tokens whole
+      → AreBefore all (λ rest. whole (inside rest))
 
 -- the tokens from the first on were a phrase of the value, in the second record with the `;` after
 -- it
-pub record ReadsValue (known : Known) (tokens : List Placed) (first : Lexeme) (v : Plist) : Type 0 where
+pub record ReadsValue (known : Known) (tokens : List Placed) (first : Lexeme)
+    (v : Plist) : Type 0 where
   pub inside : Front
   pub spells : (rest : List Lexeme) → Phrase (first ∷ inside rest) v rest
   pub reads : ReadsOn known tokens (λ rest. first ∷ inside rest)
@@ -35,7 +37,8 @@ pub record ReadsEnded (known : Known) (tokens : List Placed) (v : Plist) : Type 
   pub reads : ReadsOn known tokens inside
 
 -- the tokens were items: the first ones, or all and the parenthesis after them
-pub record ReadsItems (known : Known) (tokens : List Placed) (end : List Lexeme) (vs : Items) : Type 0 where
+pub record ReadsItems (known : Known) (tokens : List Placed) (end : List Lexeme)
+    (vs : Items) : Type 0 where
   pub inside : Front
   pub spells : (rest : List Lexeme) → ItemsPhrase (inside rest) vs (end ++ rest)
   pub reads : ReadsOn known tokens inside
@@ -47,7 +50,8 @@ pub record ReadsRow (known : Known) (tokens : List Placed) (key : List ℕ) (v :
   pub reads : ReadsOn known tokens inside
 
 -- the tokens were rows in this order: the first ones, or all and the brace after them
-pub record ReadsRows (known : Known) (tokens : List Placed) (end : List Lexeme) (rows : Pairs) : Type 0 where
+pub record ReadsRows (known : Known) (tokens : List Placed) (end : List Lexeme)
+    (rows : Pairs) : Type 0 where
   pub inside : Front
   pub spells : (rest : List Lexeme) → RowsPhrase (inside rest) rows (end ++ rest)
   pub reads : ReadsOn known tokens inside

@@ -4,12 +4,15 @@ use Rattle.plist_value.specs.declared.budget.Budget.{Budget}
 use Rattle.plist_value.specs.declared.TheConstants.{MAX_NODES, MAX_DEPTH, MAX_PAYLOAD}
 use Rattle.plist_value.specs.Budget.{Spends}
 use Rattle.plist_value.specs.Plist.{Plist, Items, Pairs, IsPlist, AreItems, ArePairs, AreUnits}
-use Rattle.plist_value.specs.Limits.{nodes, depth, payload, nodes_of_items, depth_of_items, payload_of_items, nodes_of_pairs, depth_of_pairs, payload_of_pairs}
+use Rattle.plist_value.specs.Limits.{nodes, depth, payload, nodes_of_items, depth_of_items}
+use Rattle.plist_value.specs.Limits.{payload_of_items, nodes_of_pairs, depth_of_pairs}
+use Rattle.plist_value.specs.Limits.{payload_of_pairs}
 use Rattle.ostep_lex.specs.Lexeme.{Lexeme, Placed}
 use Rattle.ostep_lex.specs.Lexing.{HasTokens}
 use Rattle.ostep_lex.specs.Cursor.{IsAfter}
 use Rattle.ostep_text.specs.declared.fault.TextFault.{TextFault}
-use Rattle.ostep_text.specs.declared.fault.TextFault.TheVariants.{TooDeep, TooManyNodes, TooMuchPayload}
+use Rattle.ostep_text.specs.declared.fault.TextFault.TheVariants.{TooDeep, TooManyNodes}
+use Rattle.ostep_text.specs.declared.fault.TextFault.TheVariants.{TooMuchPayload}
 use Rattle.ostep_text.specs.Sorting.{AreReordered}
 use Rattle.ostep_text.specs.Begun.{Before}
 use Rattle.ostep_text.specs.Read
@@ -40,19 +43,22 @@ pub record IsLeft (left : Budget) (levels : ℕ) (b : Before) : Type 0 where
 
 -- what was read of the input up to the state `source`
 abbrev pub ReadsValue : List ℕ → List Placed → Lexeme → Plist → Tokens → Type 0
-ReadsValue octets tokens first v source = Read.ReadsValue (λ all. HasRead octets all source) tokens first v
+ReadsValue octets tokens first v source =
+    Read.ReadsValue (λ all. HasRead octets all source) tokens first v
 
 abbrev pub ReadsEnded : List ℕ → List Placed → Plist → Tokens → Type 0
 ReadsEnded octets tokens v source = Read.ReadsEnded (λ all. HasRead octets all source) tokens v
 
 abbrev pub ReadsItems : List ℕ → List Placed → List Lexeme → Items → Tokens → Type 0
-ReadsItems octets tokens end vs source = Read.ReadsItems (λ all. HasRead octets all source) tokens end vs
+ReadsItems octets tokens end vs source =
+    Read.ReadsItems (λ all. HasRead octets all source) tokens end vs
 
 abbrev pub ReadsRow : List ℕ → List Placed → List ℕ → Plist → Tokens → Type 0
 ReadsRow octets tokens key v source = Read.ReadsRow (λ all. HasRead octets all source) tokens key v
 
 -- like `Read.ReadsRows`, with the rows sorted by their keys
-pub record ReadsRows (octets : List ℕ) (tokens : List Placed) (end : List Lexeme) (pairs : Pairs) (source : Tokens) : Type 0 where
+pub record ReadsRows (octets : List ℕ) (tokens : List Placed) (end : List Lexeme) (pairs : Pairs)
+    (source : Tokens) : Type 0 where
   pub rows : Pairs
   pub read : Read.ReadsRows (λ all. HasRead octets all source) tokens end rows
   pub same : AreReordered rows pairs
@@ -73,7 +79,8 @@ pub record TakesPairs (left : Budget) (levels : ℕ) (ps : Pairs) (after : Budge
   pub deep : depth_of_pairs ps ≤ levels
   pub valid : ArePairs ps
 
-pub record TakesRow (left : Budget) (levels : ℕ) (key : List ℕ) (v : Plist) (after : Budget) : Type 0 where
+pub record TakesRow (left : Budget) (levels : ℕ) (key : List ℕ) (v : Plist)
+    (after : Budget) : Type 0 where
   pub spent : Spends left (1 + nodes v) (2 * length key + payload v) after
   pub some : 1 ≤ levels
   pub deep : depth v ≤ levels

@@ -17,7 +17,8 @@ pub data StandsAmong (key : List ℕ) (v : Plist) : Pairs → Pairs → Type 0 w
 -- the rows of one are a permutation of the other
 pub data AreReordered : Pairs → Pairs → Type 0 where
   none : AreReordered no_pairs no_pairs
-  row : {key : List ℕ} {v : Plist} {rows others all : Pairs} → AreReordered rows others → StandsAmong key v others all
+  row : {key : List ℕ} {v : Plist} {rows others all : Pairs} → AreReordered rows others
+      → StandsAmong key v others all
       → AreReordered (pair key v rows) all
 
 -- each key is below the next

@@ -7,7 +7,14 @@ use Rattle.ostep_lex.specs.Lexing.{HasTokens}
 use Rattle.ostep_lex.specs.declared.fault.LexFault.TheVariants as tokens
 use Rattle.ostep_lex.specs.Stands.{Stands as StandsInTokens}
 use Rattle.ostep_text.specs.declared.fault.TextFault.{TextFault}
-use Rattle.ostep_text.specs.declared.fault.TextFault.TheVariants.{BadUtf8, XmlForm, UnexpectedCharacter, UnclosedString, UnclosedComment, BadEscape, OctalRange, OddData, BadData, BadUtf16, DuplicateKey, TooDeep, TooManyNodes, TooMuchPayload, Expected, Junk, OutOfMemory}
+use Rattle.ostep_text.specs.declared.fault.TextFault.TheVariants.{BadUtf8, XmlForm}
+use Rattle.ostep_text.specs.declared.fault.TextFault.TheVariants.{UnexpectedCharacter}
+use Rattle.ostep_text.specs.declared.fault.TextFault.TheVariants.{UnclosedString, UnclosedComment}
+use Rattle.ostep_text.specs.declared.fault.TextFault.TheVariants.{BadEscape, OctalRange, OddData}
+use Rattle.ostep_text.specs.declared.fault.TextFault.TheVariants.{BadData, BadUtf16, DuplicateKey}
+use Rattle.ostep_text.specs.declared.fault.TextFault.TheVariants.{TooDeep, TooManyNodes}
+use Rattle.ostep_text.specs.declared.fault.TextFault.TheVariants.{TooMuchPayload, Expected, Junk}
+use Rattle.ostep_text.specs.declared.fault.TextFault.TheVariants.{OutOfMemory}
 use Rattle.ostep_text.specs.Phrase.{RowsPhrase, TopPhrase}
 use Rattle.ostep_text.specs.Sorting.{has_key}
 use Rattle.ostep_text.specs.Begun.{Before, RowsAt, NodeAt}
@@ -86,16 +93,20 @@ BeginsPhrase tokens = (others : List Lexeme) × IsPhrase (tokens ++ others)
 -- Expected: no phrase continues with the token at this byte, or the text ends there, and the tokens
 -- before it are an unfinished phrase, or none
 pub data IsUnfinished (octets : List ℕ) (at : ℕ) : Type 0 where
-  at_token : {before others : List Lexeme} {token : Lexeme} → Splits octets at before (token ∷ others) → BeginsPhrase before
+  at_token : {before others : List Lexeme} {token : Lexeme}
+      → Splits octets at before (token ∷ others) → BeginsPhrase before
       → ¬ IsPhrase before → ¬ BeginsPhrase (before ++ token ∷ []) → IsUnfinished octets at
-  at_end : {before : List Lexeme} → Splits octets at before [] → BeginsPhrase before → ¬ IsPhrase before → IsUnfinished octets at
-  at_front : {others : List Lexeme} {token : Lexeme} → Splits octets at [] (token ∷ others) → ¬ BeginsPhrase (token ∷ [])
+  at_end : {before : List Lexeme} → Splits octets at before [] → BeginsPhrase before
+      → ¬ IsPhrase before → IsUnfinished octets at
+  at_front : {others : List Lexeme} {token : Lexeme} → Splits octets at [] (token ∷ others)
+      → ¬ BeginsPhrase (token ∷ [])
       → IsUnfinished octets at
 
 -- Junk: the tokens before this byte, at least one, are a phrase, and no phrase continues them with
 -- the token there
 pub data HasJunk (octets : List ℕ) (at : ℕ) : Type 0 where
-  after_phrase : {first token : Lexeme} {more others : List Lexeme} → Splits octets at (first ∷ more) (token ∷ others)
+  after_phrase : {first token : Lexeme} {more others : List Lexeme}
+      → Splits octets at (first ∷ more) (token ∷ others)
       → IsPhrase (first ∷ more) → ¬ BeginsPhrase (first ∷ (more ++ token ∷ [])) → HasJunk octets at
 
 -- the fault is true of the bytes, at its place; out of memory says nothing about them

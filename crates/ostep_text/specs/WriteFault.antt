@@ -5,7 +5,8 @@ use Rattle.plist_value.specs.declared.refusals.Place.TheVariants.{Nowhere}
 use Rattle.plist_value.specs.declared.refusals.Refusal.TheVariants as refusal
 use Rattle.plist_value.specs.declared.refusals.Report.{Report}
 use Rattle.ostep_text.specs.declared.write_fault.TextWriteFault.{TextWriteFault}
-use Rattle.ostep_text.specs.declared.write_fault.TextWriteFault.TheVariants.{NotInOpenStep, OutOfMemory}
+use Rattle.ostep_text.specs.declared.write_fault.TextWriteFault.TheVariants.{NotInOpenStep}
+use Rattle.ostep_text.specs.declared.write_fault.TextWriteFault.TheVariants.{OutOfMemory}
 
 -- the refusal, which has no position
 abbrev pub report_of : TextWriteFault → Report

@@ -1,9 +1,11 @@
 -- The text written for a value.
-use Rattle.std.specs.Prelude.{ℕ, ◌/◌, ◌%◌, Bool, true, false, not, ◌&&◌, ◌==◌, List, [], ◌∷◌, ◌++◌, Option, Some, None, nat_eq, if◌then◌else◌, codes, flat_map}
+use Rattle.std.specs.Prelude.{ℕ, ◌/◌, ◌%◌, Bool, true, false, not, ◌&&◌, ◌==◌, List, [], ◌∷◌, ◌++◌}
+use Rattle.std.specs.Prelude.{Option, Some, None, nat_eq, if◌then◌else◌, codes, flat_map}
 use Rattle.std.specs.Char.{is_ascii_alphanumeric}
 use Rattle.std.specs.Int.{is_in_range}
 use Rattle.std.specs.List.{starts_with}
-use Rattle.plist_value.specs.Plist.{Scalar, text, bytes, Plist, scalar, list, table, Items, no_items, item, Pairs, no_pairs, pair}
+use Rattle.plist_value.specs.Plist.{Scalar, text, bytes, Plist, scalar, list, table, Items}
+use Rattle.plist_value.specs.Plist.{no_items, item, Pairs, no_pairs, pair}
 use Rattle.plist_value.specs.Digits.{two_digits}
 
 -- whether the value has only strings, data, arrays and dictionaries
@@ -40,7 +42,8 @@ is_empty (unit ∷ units) = false
 
 -- only ASCII letters and digits, at least one, and not beginning like a binary file
 abbrev pub is_plain : List ℕ → Bool
-is_plain units = not (is_empty units) && are_alphanumeric units && not (starts_with nat_eq units (codes "bplist"))
+is_plain units = not (is_empty units) && are_alphanumeric units
+    && not (starts_with nat_eq units (codes "bplist"))
 
 -- a unit between quotes: an escape, the unit itself if it is a printable ASCII character, or `\U`
 -- and four lower-case hexadecimal digits
@@ -56,7 +59,8 @@ quoted_unit unit =
 
 -- unchanged if the string is plain, else between quotes
 abbrev pub written_text : List ℕ → List ℕ
-written_text units = if is_plain units then units else codes "\"" ++ flat_map quoted_unit units ++ codes "\""
+written_text units = if is_plain units then units
+    else codes "\"" ++ flat_map quoted_unit units ++ codes "\""
 
 abbrev pub written_scalar : Scalar → List ℕ
 written_scalar (text units) = written_text units
@@ -77,7 +81,8 @@ abbrev mutual
 
   pub written_pairs : Pairs → List ℕ
   written_pairs no_pairs = []
-  written_pairs (pair key v ps) = written_text key ++ codes " = " ++ written v ++ codes ";\n" ++ written_pairs ps
+  written_pairs (pair key v ps) = written_text key ++ codes " = " ++ written v ++ codes ";\n"
+      ++ written_pairs ps
 
 -- the whole text, with a newline at its end: Some if and only if the value is writable
 abbrev pub text_of : Plist → Option (List ℕ)

@@ -30,7 +30,8 @@ pub record IsVisited (f : List ℕ) (marks : List Bool) (i : ℕ) : Type 0 where
   pub spells : SpellsWithin f i MAX_DEPTH
   pub has_text : HasText f i
   pub items : (refs : List ℕ) → Holds f i (holds_list refs) → All (IsMarked marks) refs
-  pub values : (keys values : List ℕ) → Holds f i (holds_table keys values) → All (IsMarked marks) values
+  pub values : (keys values : List ℕ) → Holds f i (holds_table keys values)
+      → All (IsMarked marks) values
 
 -- there is a mark for each object, and those that are set are right
 pub record AreMarks (f : List ℕ) (marks : List Bool) : Type 0 where

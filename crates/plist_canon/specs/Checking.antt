@@ -6,7 +6,8 @@ use Rattle.plist_object.specs.Objects.{Held}
 use Rattle.plist_object.specs.declared.layout.LayoutFault.TheVariants as layout
 use Rattle.plist_object.specs.Places.{span_of, HoldsText}
 use Rattle.plist_object.specs.References.{references_of}
-use Rattle.plist_canon.specs.Rules.{keys_of, IsWellRead, IsSpelledCanonically, HasAscendingKeys, FollowsRules, IsBroken}
+use Rattle.plist_canon.specs.Rules.{keys_of, IsWellRead, IsSpelledCanonically, HasAscendingKeys}
+use Rattle.plist_canon.specs.Rules.{FollowsRules, IsBroken}
 use Rattle.plist_canon.specs.declared.checking.CheckFault.{CheckFault}
 use Rattle.plist_canon.specs.declared.checking.CheckFault.TheVariants as fault
 use Rattle.plist_canon.specs.declared.checking.Verdict.{Verdict}

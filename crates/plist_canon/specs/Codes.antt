@@ -7,7 +7,8 @@ use Rattle.plist_value.specs.declared.refusals.Report.{Report}
 use Rattle.plist_object.specs.declared.layout.LayoutFault.{LayoutFault}
 use Rattle.plist_object.specs.declared.layout.LayoutFault.TheVariants as layout
 use Rattle.plist_canon.specs.declared.checking.CheckFault.{CheckFault}
-use Rattle.plist_canon.specs.declared.checking.CheckFault.TheVariants.{TooShort, BadHeader, BadTrailer, OutOfMemory}
+use Rattle.plist_canon.specs.declared.checking.CheckFault.TheVariants.{TooShort, BadHeader}
+use Rattle.plist_canon.specs.declared.checking.CheckFault.TheVariants.{BadTrailer, OutOfMemory}
 
 -- the error of a layout as one of the check
 abbrev pub of_layout : LayoutFault → CheckFault

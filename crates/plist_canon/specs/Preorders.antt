@@ -1,5 +1,6 @@
 -- What the walk from object 0 still has to visit.
-use Rattle.std.specs.Prelude.{◌≡◌, ◌↔◌, ℕ, ◌<◌, false, List, [], ◌∷◌, ◌++◌, length, drop, slice_index_or}
+use Rattle.std.specs.Prelude.{◌≡◌, ◌↔◌, ℕ, ◌<◌, false, List, [], ◌∷◌, ◌++◌, length, drop}
+use Rattle.std.specs.Prelude.{slice_index_or}
 use Rattle.std.specs.List.{Contains}
 use Rattle.plist_object.specs.Objects.{Held, holds_scalar, holds_list, holds_table}
 use Rattle.plist_object.specs.Views.{numbers_of}
@@ -41,8 +42,10 @@ path_groups (frame ∷ frames) = path_groups frames ++ (frame_group frame ∷ []
 abbrev pub groups_of : ℕ → ℕ → Held → List Group
 groups_of owner levels (holds_scalar s) = []
 groups_of owner levels (holds_list refs) = grouped owner levels refs ∷ []
-groups_of owner levels (holds_table keys values) = grouped owner levels keys ∷ grouped owner levels values ∷ []
+groups_of owner levels (holds_table keys values) = grouped owner levels keys
+    ∷ grouped owner levels values ∷ []
 
 -- the number is not that of a visited scalar, if these are the weights of the visited objects
 abbrev pub IsNoneSeen : List Weight → ℕ → Type 0
-IsNoneSeen weights i = i < length weights → is_scalar_weight (slice_index_or weights i container) ≡ false
+IsNoneSeen weights i = i < length weights → is_scalar_weight (slice_index_or weights i container)
+    ≡ false

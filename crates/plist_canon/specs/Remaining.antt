@@ -1,7 +1,8 @@
 -- What the walk from object 0 still takes from the limits.
 use Rattle.std.specs.Prelude.{◌≡◌, ℕ, ◌+◌, ◌≤◌, ⊤, List, [], ◌∷◌, Option, Some, None}
 use Rattle.plist_value.specs.Plist.{Plist, Items, IsPlist, AreItems}
-use Rattle.plist_value.specs.Limits.{Fits, nodes, depth, payload, nodes_of_items, depth_of_items, payload_of_items}
+use Rattle.plist_value.specs.Limits.{Fits, nodes, depth, payload, nodes_of_items, depth_of_items}
+use Rattle.plist_value.specs.Limits.{payload_of_items}
 use Rattle.plist_value.specs.declared.TheConstants.{MAX_NODES, MAX_DEPTH, MAX_PAYLOAD}
 use Rattle.plist_value.specs.Budget.{Spends, IsOver}
 use Rattle.plist_value.specs.declared.budget.Budget.{Budget}
@@ -22,16 +23,19 @@ AllReferred f (group ∷ groups) = Referred f group × AllReferred f groups
 
 abbrev pub nodes_referred : (f : List ℕ) (groups : List Group) → AllReferred f groups → ℕ
 nodes_referred f [] referred = 0
-nodes_referred f (group ∷ groups) referred = nodes_of_items referred.0.items + nodes_referred f groups referred.1
+nodes_referred f (group ∷ groups) referred =
+    nodes_of_items referred.0.items + nodes_referred f groups referred.1
 
 abbrev pub payload_referred : (f : List ℕ) (groups : List Group) → AllReferred f groups → ℕ
 payload_referred f [] referred = 0
-payload_referred f (group ∷ groups) referred = payload_of_items referred.0.items + payload_referred f groups referred.1
+payload_referred f (group ∷ groups) referred =
+    payload_of_items referred.0.items + payload_referred f groups referred.1
 
 -- no value is deeper than its group allows
 abbrev pub AreWithin : (f : List ℕ) (groups : List Group) → AllReferred f groups → Type 0
 AreWithin f [] referred = ⊤
-AreWithin f (group ∷ groups) referred = (depth_of_items referred.0.items ≤ group.levels) × AreWithin f groups referred.1
+AreWithin f (group ∷ groups) referred = (depth_of_items referred.0.items ≤ group.levels)
+    × AreWithin f groups referred.1
 
 -- All of the value but what the groups refer to is spent. The value is within the limit of depth if
 -- and only if the groups are.
@@ -51,5 +55,6 @@ HasLeft f groups None = (v : Plist) → IsPlist v → Spells f 0 v → ¬ Fits v
 -- what an object of this weight takes if `levels` are allowed
 abbrev pub Takes : ℕ → Weight → Option Budget → Option Budget → Type 0
 Takes levels weight None after = after ≡ None
-Takes levels weight (Some before) (Some after) = (1 ≤ levels) × Spends before 1 (payload_of_weight weight) after
+Takes levels weight (Some before) (Some after) = (1 ≤ levels)
+    × Spends before 1 (payload_of_weight weight) after
 Takes levels weight (Some before) None = 1 ≤ levels → IsOver before 1 (payload_of_weight weight)

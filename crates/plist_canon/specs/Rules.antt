@@ -1,6 +1,7 @@
 -- The eight rules of a canonical file (this project's profile). Each is stated in terms of a file
 -- that has the layout.
-use Rattle.std.specs.Prelude.{◌≡◌, ◌≢◌, ◌↔◌, ◌⊎◌, ℕ, suc, ◌<◌, List, [], ◌∷◌, ◌++◌, replicate, Ok, IsOk}
+use Rattle.std.specs.Prelude.{◌≡◌, ◌≢◌, ◌↔◌, ◌⊎◌, ℕ, suc, ◌<◌, List, [], ◌∷◌, ◌++◌, replicate, Ok}
+use Rattle.std.specs.Prelude.{IsOk}
 use Rattle.std.specs.List.{AllByRecursion, Contains}
 use Rattle.std.specs.List.Sorted.{IsStrictlySortedBy}
 use Rattle.std.specs.Ordering.{nat_cmp}
@@ -25,7 +26,8 @@ keys_of (holds_table keys values) = keys
 abbrev pub HoldTexts : List ℕ → List ℕ → List (List ℕ) → Type 0
 HoldTexts f refs [] = refs ≡ []
 HoldTexts f [] (units ∷ texts) = ⊥
-HoldTexts f (i ∷ refs) (units ∷ texts) = Holds f i (holds_scalar (text units)) × HoldTexts f refs texts
+HoldTexts f (i ∷ refs) (units ∷ texts) = Holds f i (holds_scalar (text units))
+    × HoldTexts f refs texts
 
 -- Object i can be decoded, each of its references is the number of an object, and those to keys
 -- point to strings.
@@ -56,8 +58,10 @@ pub record HasLeastWidths (f : List ℕ) : Type 0 where
 -- decoded.
 pub record Adjoins (f : List ℕ) (i : ℕ) : Type 0 where
   pub first : (start end : ℕ) → i ≡ 0 → span_of f i ≡ Ok (start, end) → start ≡ 8
-  pub next : (before start middle begin end : ℕ) → i ≡ suc before → span_of f before ≡ Ok (start, middle) → span_of f i ≡ Ok (begin, end) → begin ≡ middle
-  pub last : (start end : ℕ) → suc i ≡ (trailer_of f).count → span_of f i ≡ Ok (start, end) → end ≡ (trailer_of f).table
+  pub next : (before start middle begin end : ℕ) → i ≡ suc before
+      → span_of f before ≡ Ok (start, middle) → span_of f i ≡ Ok (begin, end) → begin ≡ middle
+  pub last : (start end : ℕ) → suc i ≡ (trailer_of f).count → span_of f i ≡ Ok (start, end)
+      → end ≡ (trailer_of f).table
 
 -- C4 at i: if object i can be decoded, its bytes are its canonical encoding.
 abbrev pub IsSpelledCanonically : List ℕ → ℕ → Type 0
@@ -67,33 +71,39 @@ IsSpelledCanonically f i = IsOk (object_at f i) → IsShortest f i
 -- by unit.
 abbrev pub HasAscendingKeys : List ℕ → ℕ → Type 0
 HasAscendingKeys f i =
-    (keys values : List ℕ) (texts : List (List ℕ)) → what_holds f i ≡ Ok (holds_table keys values) → HoldTexts f keys texts → IsStrictlySortedBy (slice_cmp nat_cmp) texts
+    (keys values : List ℕ) (texts : List (List ℕ)) → what_holds f i ≡ Ok (holds_table keys values)
+    → HoldTexts f keys texts → IsStrictlySortedBy (slice_cmp nat_cmp) texts
 
 -- C6 at i: if object i is a scalar, no earlier object is an equal one.
 abbrev pub IsNoRepeat : List ℕ → ℕ → Type 0
 IsNoRepeat f i =
-    (s : Scalar) → what_holds f i ≡ Ok (holds_scalar s) → (earlier : ℕ) → earlier < i → what_holds f earlier ≢ Ok (holds_scalar s)
+    (s : Scalar) → what_holds f i ≡ Ok (holds_scalar s) → (earlier : ℕ) → earlier < i
+    → what_holds f earlier ≢ Ok (holds_scalar s)
 
 -- The walk from object i in preorder: i itself, followed by the walks from its references in order.
 mutual
   pub data Walk (f : List ℕ) : ℕ → List ℕ → Type 0 where
-    visit : (i : ℕ) (held : Held) (entries : List ℕ) → Holds f i held → Walks f (references_of held) entries → Walk f i (i ∷ entries)
+    visit : (i : ℕ) (held : Held) (entries : List ℕ) → Holds f i held
+        → Walks f (references_of held) entries → Walk f i (i ∷ entries)
 
   pub data Walks (f : List ℕ) : List ℕ → List ℕ → Type 0 where
     end : Walks f [] []
-    step : (i : ℕ) (refs entries others : List ℕ) → Walk f i entries → Walks f refs others → Walks f (i ∷ refs) (entries ++ others)
+    step : (i : ℕ) (refs entries others : List ℕ) → Walk f i entries → Walks f refs others
+        → Walks f (i ∷ refs) (entries ++ others)
 
 -- After these entries of a walk the next one comes in order: exactly the numbers below it were
 -- visited, or it was visited itself and is the number of a scalar.
 abbrev pub ComesInOrder : List ℕ → List ℕ → ℕ → Type 0
-ComesInOrder f before entry = ((i : ℕ) → Contains before i ↔ i < entry) ⊎ (Contains before entry × HoldsScalar f entry)
+ComesInOrder f before entry = ((i : ℕ) → Contains before i ↔ i < entry)
+    ⊎ (Contains before entry × HoldsScalar f entry)
 
 -- C7: the walk from object 0 visits all objects in the order of their numbers, and only scalars
 -- again.
 pub record IsNumberedInPreorder (f : List ℕ) : Type 0 where
   pub entries : List ℕ
   pub walk : Walk f 0 entries
-  pub order : (before after : List ℕ) (entry : ℕ) → entries ≡ before ++ (entry ∷ after) → ComesInOrder f before entry
+  pub order : (before after : List ℕ) (entry : ℕ) → entries ≡ before ++ (entry ∷ after)
+      → ComesInOrder f before entry
   pub all : (i : ℕ) → Contains entries i ↔ i < (trailer_of f).count
 
 -- all eight rules
@@ -121,7 +131,9 @@ held_by holder (i ∷ refs) = record { holder = holder; number = i } ∷ held_by
 -- far, and these references are still to be followed, the next one first.
 pub data ComesTo (f : List ℕ) : List ℕ → List Reference → Type 0 where
   begins : (held : Held) → Holds f 0 held → ComesTo f (0 ∷ []) (held_by 0 (references_of held))
-  goes_on : (entries : List ℕ) (holder i : ℕ) (held : Held) (left : List Reference) → ComesTo f entries (record { holder = holder; number = i } ∷ left) → ComesInOrder f entries i → Holds f i held → ComesTo f (entries ++ (i ∷ [])) (held_by i (references_of held) ++ left)
+  goes_on : (entries : List ℕ) (holder i : ℕ) (held : Held) (left : List Reference)
+      → ComesTo f entries (record { holder = holder; number = i } ∷ left) → ComesInOrder f entries i
+      → Holds f i held → ComesTo f (entries ++ (i ∷ [])) (held_by i (references_of held) ++ left)
 
 -- The walk comes to a reference in the object `holder` that is no number of an object, or does not
 -- come in order.

@@ -15,9 +15,11 @@ was_seen seen r = is_some (number_stored seen r)
 
 -- an object before i that may repeat another contains the scalar
 abbrev pub IsHeldBefore : RepeatFilter → List ℕ → ℕ → Scalar → Type 0
-IsHeldBefore filter f i s = (earlier : ℕ) × ((earlier < i) × (MayRepeat filter earlier × HoldsIt f earlier s))
+IsHeldBefore filter f i s = (earlier : ℕ)
+    × ((earlier < i) × (MayRepeat filter earlier × HoldsIt f earlier s))
 
 -- the scalars of such objects, and no others, were seen
-pub record HasSeen {S H : Type 0} (filter : RepeatFilter) (f : List ℕ) (i : ℕ) (seen : Scalars S H) : Type 0 where
+pub record HasSeen {S H : Type 0} (filter : RepeatFilter) (f : List ℕ) (i : ℕ)
+    (seen : Scalars S H) : Type 0 where
   pub numbered : AreNumbered seen
   pub each : (r : ScalarRef) → (was_seen seen r ≡ true) ↔ IsHeldBefore filter f i (content_of r)

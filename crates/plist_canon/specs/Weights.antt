@@ -33,4 +33,5 @@ pub record Weighs (f : List ℕ) (i : ℕ) (weight : Weight) : Type 0 where
 
 -- these are the weights of the first objects
 abbrev pub AreWeights : List ℕ → List Weight → Type 0
-AreWeights f weights = (i : ℕ) → i < length weights → Weighs f i (slice_index_or weights i container)
+AreWeights f weights = (i : ℕ) → i < length weights
+    → Weighs f i (slice_index_or weights i container)

@@ -1,5 +1,6 @@
 -- The results for bytes that were loaded: the printed text and the exit status.
-use Rattle.std.specs.Prelude.{◌≡◌, ◌↔◌, ◌⊎◌, ◌++◌, ℕ, Bool, false, List, Option, Some, None, codes, if◌then◌else◌, string_bytes}
+use Rattle.std.specs.Prelude.{◌≡◌, ◌↔◌, ◌⊎◌, ◌++◌, ℕ, Bool, false, List, Option, Some, None, codes}
+use Rattle.std.specs.Prelude.{if◌then◌else◌, string_bytes}
 use Rattle.plist_value.specs.Plist.{Plist}
 use Rattle.plist_object.specs.Layout.{IsLaid}
 use Rattle.plist_canon.specs.Checking.{IsCheckFault, IsVerdict}
@@ -53,7 +54,8 @@ equality_said equal = if equal then said (codes "equal") 0 else said (codes "dif
 abbrev pub explanation_said : List ℕ → Option (List ℕ) → Said
 explanation_said word (Some text) = record { text = text; status = 0 }
 explanation_said word None =
-    said (codes "error: '" ++ (word ++ codes "' is no refusal and no rule: plistconv explain lists them")) 3
+    said (codes "error: '"
+    ++ (word ++ codes "' is no refusal and no rule: plistconv explain lists them")) 3
 
 abbrev pub word_said : List ℕ → Said
 word_said word = explanation_said word (explanation_of word)

@@ -1,5 +1,6 @@
 -- The request of a command line, by the command and its arguments.
-use Rattle.std.specs.Prelude.{List, Option, Some, None, codes, map, option_and_then, option_map, if◌then◌else◌}
+use Rattle.std.specs.Prelude.{List, Option, Some, None, codes, map, option_and_then, option_map}
+use Rattle.std.specs.Prelude.{if◌then◌else◌}
 use Rattle.std.specs.Str.{bytes_eq}
 use Rattle.clap.specs.Words.{Row, Text, all_of, first_of}
 use Rattle.plist_forms.specs.declared.forms.Form.{Form}

@@ -12,7 +12,8 @@ file_word id = record (new_rule id) { required = true }
 -- a required argument with one value or more
 abbrev pub file_words : Text → Rule
 file_words id =
-    record (file_word id) { range = Some (record { start_inclusive = 1; end_inclusive = usize_max }) }
+    record (file_word id)
+    { range = Some (record { start_inclusive = 1; end_inclusive = usize_max }) }
 
 -- a command with one file, such as `print IN`
 abbrev pub one_file : Text → App
@@ -24,7 +25,8 @@ some_files name = with_rule (new_app name) (file_words (codes "IN"))
 
 -- `same A B`
 abbrev pub same : App
-same = with_rule (with_rule (new_app (codes "same")) (file_word (codes "A"))) (file_word (codes "B"))
+same =
+    with_rule (with_rule (new_app (codes "same")) (file_word (codes "A"))) (file_word (codes "B"))
 
 -- `convert FORM IN OUT`, with these values of FORM
 abbrev pub convert : Bor (List (Bor Text)) → App
@@ -45,7 +47,8 @@ program_top =
 
 abbrev pub program : Bor (List (Bor Text)) → App
 program forms =
-    with_subcommand (with_subcommand (with_subcommand (with_subcommand (with_subcommand (with_subcommand
+    with_subcommand
+    (with_subcommand (with_subcommand (with_subcommand (with_subcommand (with_subcommand
     program_top (convert forms).top) same.top) (some_files (codes "lint")).top)
     (some_files (codes "check")).top) (one_file (codes "print")).top) explain.top
 

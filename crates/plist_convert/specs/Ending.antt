@@ -21,7 +21,8 @@ no_memory = record { text = codes "refused 60 OutOfMemory\n"; status = 5 }
 
 -- The text is printed, or memory ran out before the line was made.
 abbrev pub Ends : Option (List ℕ) → Option (List ℕ) → ℕ → ℕ → Said → ℕ → Type 0
-Ends old new before after s status = Prints old new before after s status ⊎ Prints old new before after no_memory status
+Ends old new before after s status = Prints old new before after s status
+    ⊎ Prints old new before after no_memory status
 
 -- Printing failed once or more: the count rose, or is at the maximum.
 abbrev pub HaveFailed : ℕ → ℕ → Type 0

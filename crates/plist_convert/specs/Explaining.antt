@@ -29,7 +29,8 @@ pub record IsExplanation (status : ℕ) (text : List ℕ) : Type 0 where
   pub mistake : status ≡ 3 → starts_with nat_eq text (codes "error: ") ≡ true
 
 -- A message for the error is printed.
-pub record IsTold (error : ErrorKind) (old new : Option (List ℕ)) (before after status : ℕ) : Type 0 where
+pub record IsTold (error : ErrorKind) (old new : Option (List ℕ))
+    (before after status : ℕ) : Type 0 where
   pub text : List ℕ
   pub explains : IsExplanation (status_of_kind error) text
   pub prints : Prints old new before after (said_of_kind text error) status
@@ -52,4 +53,5 @@ pub record IsExplained (words : List Text) (before after : State) (status : ℕ)
   pub nothing : kinds ≡ [] → (asked ≡ None) ⊎ (error ≡ kind.OutOfMemory)
   pub files : after.files ≡ before.files
   pub disk_failures : after.disk_failures ≡ before.disk_failures
-  pub ends : Explains error before.printed after.printed before.print_failures after.print_failures status
+  pub ends : Explains error before.printed after.printed before.print_failures after.print_failures
+      status

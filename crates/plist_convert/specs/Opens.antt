@@ -1,11 +1,13 @@
 -- What opening, creating and keeping a file means, if the opener knows the files.
-use Rattle.std.specs.Prelude.{◌≡◌, ◌≢◌, ◌⊎◌, ℕ, ◌<◌, Bool, true, false, List, [], ◌∷◌, length, None, Option, Some, Result, Err, IfSome}
+use Rattle.std.specs.Prelude.{◌≡◌, ◌≢◌, ◌⊎◌, ℕ, ◌<◌, Bool, true, false, List, [], ◌∷◌, length, None}
+use Rattle.std.specs.Prelude.{Option, Some, Result, Err, IfSome}
 use Rattle.std.specs.IoError.{error_kind}
 use Rattle.std.specs.declared.io.Error.{Error}
 use Rattle.std.specs.declared.io.ErrorKind.TheVariants as kind
 use Rattle.plist_devices.specs.Count.{one_more}
 use Rattle.plist_forms.specs.declared.faults.Fault.{Fault}
-use Rattle.plist_forms.specs.declared.faults.Fault.TheVariants.{ReadFailed, InputTooLarge, OutOfMemory}
+use Rattle.plist_forms.specs.declared.faults.Fault.TheVariants.{ReadFailed, InputTooLarge}
+use Rattle.plist_forms.specs.declared.faults.Fault.TheVariants.{OutOfMemory}
 use Rattle.plist_forms.specs.declared.loading.TheConstants.{MAX_INPUT}
 use Rattle.plist_forms.specs.declared.forms.Form.{Form}
 use Rattle.plist_forms.specs.Transfer.{Writes}
@@ -14,7 +16,8 @@ use Rattle.plist_convert.specs.Files.{FileName, Files, Lacks, SameFiles, Turns}
 
 -- there is a file at the path, and the reader will read all of it
 abbrev pub ReadsAll : Option Files → FileName → Option (List ℕ) → Type 0
-ReadsAll files path to_come = IfSome files (λ at. (octets : List ℕ) × ((at path ≡ Some octets) × (to_come ≡ Some octets)))
+ReadsAll files path to_come =
+    IfSome files (λ at. (octets : List ℕ) × ((at path ≡ Some octets) × (to_come ≡ Some octets)))
 
 -- why a file is not opened: there is none, or out of memory
 abbrev pub IsUnopened : Option Files → FileName → Error → Type 0
@@ -23,7 +26,8 @@ IsUnopened files path error = error_kind error ≢ kind.OutOfMemory → Lacks fi
 -- the refusal of a file that is not opened: 60 if out of memory, else 50
 abbrev pub IsUnopenedAs : Error → Fault → Type 0
 IsUnopenedAs error fault =
-    ((error_kind error ≡ kind.OutOfMemory) × (fault ≡ OutOfMemory 0)) ⊎ ((error_kind error ≢ kind.OutOfMemory) × (fault ≡ ReadFailed))
+    ((error_kind error ≡ kind.OutOfMemory) × (fault ≡ OutOfMemory 0))
+    ⊎ ((error_kind error ≢ kind.OutOfMemory) × (fault ≡ ReadFailed))
 
 -- the writer has written these bytes and no others, if the opener knows the files
 abbrev pub HasWritten : Option Files → Option (List ℕ) → List ℕ → Type 0
@@ -36,21 +40,26 @@ IsNew files contents = HasWritten files contents []
 -- if the file at the path is not what it was, it is empty; every other file is what it was
 abbrev pub MayEmpty : FileName → Option Files → Option Files → Type 0
 MayEmpty path before after =
-    Turns before after (λ old new. (new path ≢ old path → new path ≡ Some []) × ((other : FileName) → other ≢ path → new other ≡ old other))
+    Turns before after (λ old new. (new path ≢ old path → new path ≡ Some [])
+    × ((other : FileName) → other ≢ path → new other ≡ old other))
 
 -- the file at the path is what was written, and every other file is what it was
 abbrev pub Puts : FileName → Option (List ℕ) → Option Files → Option Files → Type 0
 Puts path contents before after =
-    Turns before after (λ old new. (new path ≡ contents) × ((other : FileName) → other ≢ path → new other ≡ old other))
+    Turns before after (λ old new. (new path ≡ contents)
+    × ((other : FileName) → other ≢ path → new other ≡ old other))
 
 -- what the writer of a created file has written
 abbrev pub written_of : {W : Type 0} → (W → Option (List ℕ)) → Created W → Option (List ℕ)
 written_of contents created = contents created.writer
 
--- the file that was created, if there is one, is what was written, and every other file is unchanged
-abbrev pub Settles : {W : Type 0} → (W → Option (List ℕ)) → Option (Created W) → Option Files → Option Files → Type 0
+-- the file that was created, if there is one, is what was written, and every other file is
+-- unchanged
+abbrev pub Settles : {W : Type 0} → (W → Option (List ℕ)) → Option (Created W) → Option Files
+    → Option Files → Type 0
 Settles contents None before after = SameFiles before after
-Settles contents (Some created) before after = Puts created.path.now (written_of contents created) before after
+Settles contents (Some created) before after =
+    Puts created.path.now (written_of contents created) before after
 
 -- a reader of this type has counted a failed read
 abbrev pub HasFailing : {R : Type 0} → (R → ℕ) → Type 0
@@ -92,7 +101,8 @@ IsUntouched created failures before after = created ≡ None → failures ≡ 0 
 -- What is sent to a file that is created at its first write: the output for the bytes, or the
 -- prefix that the refusal states. Until it is closed its file is what it was or empty. If nothing
 -- was written and no write failed, no file is changed.
-pub record Creates (form : Form) (octets : List ℕ) (path : FileName) (before after : Option Files) (contents : Option (Option (List ℕ))) (result : Result ℕ Fault) : Type 0 where
+pub record Creates (form : Form) (octets : List ℕ) (path : FileName) (before after : Option Files)
+    (contents : Option (Option (List ℕ))) (result : Result ℕ Fault) : Type 0 where
   pub failures : ℕ
   pub writes : Writes form octets (held_by before None) (held_by before contents) 0 failures result
   pub begun : is_begun before contents ≡ true

@@ -1,11 +1,13 @@
 -- The complete program: the arguments, the state before and after, and the exit status.
 use Rattle.std.specs.Prelude.{◌≡◌, ◌⊎◌, ℕ, ◌<◌, ◌≤◌, List, [], Option, Some, None, length}
 use Rattle.clap.specs.Words.{Kinds, Text}
-use Rattle.plist_convert.specs.Asked.{Asked, Filters, Converts, Compares, Lints, Checks, Prints, Explains}
+use Rattle.plist_convert.specs.Asked.{Asked, Filters, Converts, Compares, Lints, Checks, Prints}
+use Rattle.plist_convert.specs.Asked.{Explains}
 use Rattle.plist_convert.specs.Reading.{IsParse}
 use Rattle.plist_convert.specs.Ending.{HaveFailed}
 use Rattle.plist_convert.specs.Explaining.{IsExplained}
-use Rattle.plist_convert.specs.Runs.{IsCheckRun, IsConvertRun, IsExplainRun, IsFilterRun, IsLintRun, IsPrintRun, IsSameRun}
+use Rattle.plist_convert.specs.Runs.{IsCheckRun, IsConvertRun, IsExplainRun, IsFilterRun, IsLintRun}
+use Rattle.plist_convert.specs.Runs.{IsPrintRun, IsSameRun}
 use Rattle.plist_convert.specs.State.{Input, State, input_of, state}
 
 -- no file and no count of file failures changes
@@ -44,13 +46,15 @@ pub record AskFor (words : List Text) (it : Asked) : Type 0 where
   pub many : 2 ≤ length words → AreTaken words it
 
 -- the request of the arguments is executed
-pub record IsObeyed (words : List Text) (input rest : Input) (before after : State) (status : ℕ) : Type 0 where
+pub record IsObeyed (words : List Text) (input rest : Input) (before after : State)
+    (status : ℕ) : Type 0 where
   pub it : Asked
   pub asks : AskFor words it
   pub done : IsAskedRun it input rest before after status
 
 -- the arguments are refused, or ask for help
-pub record IsRefusedRun (words : List Text) (input rest : Input) (before after : State) (status : ℕ) : Type 0 where
+pub record IsRefusedRun (words : List Text) (input rest : Input) (before after : State)
+    (status : ℕ) : Type 0 where
   pub many : 2 ≤ length words
   pub untouched : rest ≡ input
   pub explained : IsExplained words before after status
@@ -58,17 +62,21 @@ pub record IsRefusedRun (words : List Text) (input rest : Input) (before after :
 -- a run of the program
 abbrev pub IsRun : List Text → Input → Input → State → State → ℕ → Type 0
 IsRun words input rest before after status =
-    IsObeyed words input rest before after status ⊎ IsRefusedRun words input rest before after status
+    IsObeyed words input rest before after status
+    ⊎ IsRefusedRun words input rest before after status
 
 -- A run on the files of the host, whose contents are unknown, with this standard input. Its devices
 -- and streams may fail any number of times.
 abbrev pub IsHostRun : List Text → Option (List ℕ) → Option (List ℕ) → Option (List ℕ) → ℕ → Type 0
 IsHostRun words to_come printed prints status =
-    (disk_failed : ℕ) × (print_failed : ℕ) × (rest : Input) × IsRun words (input_of to_come 0) rest (state None 0 printed 0) (state None disk_failed prints print_failed) status
+    (disk_failed : ℕ) × (print_failed : ℕ) × (rest : Input)
+    × IsRun words (input_of to_come 0) rest (state None 0 printed 0)
+    (state None disk_failed prints print_failed) status
 
 -- A device failed during the call: the count of failures of the input, of the files or of the
 -- output rose, or is at the maximum.
 abbrev pub DeviceFailed : Input → Input → State → State → Type 0
 DeviceFailed input rest before after =
     HaveFailed input.failures rest.failures
-    ⊎ (HaveFailed before.disk_failures after.disk_failures ⊎ HaveFailed before.print_failures after.print_failures)
+    ⊎ (HaveFailed before.disk_failures after.disk_failures
+    ⊎ HaveFailed before.print_failures after.print_failures)

@@ -1,5 +1,6 @@
 -- What each command does, as a relation between the states before and after.
-use Rattle.std.specs.Prelude.{◌≡◌, ◌⊎◌, ℕ, ◌<◌, Bool, List, [], ◌∷◌, length, max, nat_lt, Option, Result, MatchResult, codes}
+use Rattle.std.specs.Prelude.{◌≡◌, ◌⊎◌, ℕ, ◌<◌, Bool, List, [], ◌∷◌, length, max, nat_lt, Option}
+use Rattle.std.specs.Prelude.{Result, MatchResult, codes}
 use Rattle.plist_devices.specs.Count.{one_more}
 use Rattle.plist_forms.specs.Accepted.{IsCanonicalOf}
 use Rattle.plist_forms.specs.Fault.{write_fault_for}
@@ -15,7 +16,8 @@ use Rattle.plist_engine.specs.declared.faults.WriteFault.{WriteFault}
 use Rattle.plist_forms.specs.Output.{IsOutput}
 use Rattle.plist_forms.specs.Transfer.{IsInput}
 use Rattle.plist_convert.specs.Files.{FileName, Holds, IsStored, IsUnloaded, SameFiles}
-use Rattle.plist_convert.specs.Answer.{IsCheckAnswerOf, IsLintAnswer, IsOutputRefusal, IsRefusedAnswer, IsSameAnswer, Said, explained_said, refusal}
+use Rattle.plist_convert.specs.Answer.{IsCheckAnswerOf, IsLintAnswer, IsOutputRefusal}
+use Rattle.plist_convert.specs.Answer.{IsRefusedAnswer, IsSameAnswer, Said, explained_said, refusal}
 use Rattle.plist_convert.specs.Ending.{Ends, HaveFailed}
 use Rattle.plist_convert.specs.State.{Ending, Input, State, Wanting}
 
@@ -27,7 +29,8 @@ pub record IsUnread (path : FileName) (before after : State) (status : ℕ) : Ty
   pub ends : Ending before after (refusal path fault) status
 
 -- The result for the bytes at the path is printed.
-pub record IsAnswered (Answers : List ℕ → Said → Type 0) (path : FileName) (before after : State) (status : ℕ) : Type 0 where
+pub record IsAnswered (Answers : List ℕ → Said → Type 0) (path : FileName) (before after : State)
+    (status : ℕ) : Type 0 where
   pub octets : List ℕ
   pub stands : Holds before.files path octets
   pub said : Said
@@ -45,7 +48,8 @@ pub record IsWanting (before after : State) (status : ℕ) : Type 0 where
 -- A command that prints a result for one file.
 abbrev pub IsFileRun : (List ℕ → Said → Type 0) → FileName → State → State → ℕ → Type 0
 IsFileRun Answers path before after status =
-    IsUnread path before after status ⊎ (IsAnswered Answers path before after status ⊎ IsWanting before after status)
+    IsUnread path before after status
+    ⊎ (IsAnswered Answers path before after status ⊎ IsWanting before after status)
 
 -- The line of one path is printed, and then those of others. The status is the greater.
 pub record IsFollowed (One Others : State → State → ℕ → Type 0) (before after : State) (status : ℕ)
@@ -85,7 +89,8 @@ unfoldable pub IsLintRun : List FileName → State → State → ℕ → Type 0
 IsLintRun = IsRunOfEach IsLinted
 
 -- The first file is loaded, and the second is not.
-pub record IsSecondUnread (first second : FileName) (before after : State) (status : ℕ) : Type 0 where
+pub record IsSecondUnread (first second : FileName) (before after : State)
+    (status : ℕ) : Type 0 where
   pub octets : List ℕ
   pub stands : Holds before.files first octets
   pub unread : IsUnread second before after status
@@ -110,7 +115,8 @@ IsSameRun first second before after status =
 
 -- how the program ends after a file was sent: it prints nothing more if all was sent, and otherwise
 -- the line of the refusal
-abbrev pub EndsSending : Option (List ℕ) → Option (List ℕ) → ℕ → ℕ → (WriteFault → Said) → Result ℕ WriteFault → ℕ → Type 0
+abbrev pub EndsSending : Option (List ℕ) → Option (List ℕ) → ℕ → ℕ → (WriteFault → Said)
+    → Result ℕ WriteFault → ℕ → Type 0
 EndsSending old new before after line result status = MatchResult result
     (λ _. (status ≡ 0) × (new ≡ old) × (after ≡ before))
     (λ fault. Ends old new before after (line fault) status)
@@ -125,13 +131,17 @@ abbrev pub refusal_between : FileName → FileName → Fault → Said
 refusal_between from to fault = refusal (path_of_fault from to fault) fault
 
 -- The bytes are stored at a path, up to a refusal if there is one. No other file changes.
-pub record IsStoreRun (from to : FileName) (file : List ℕ) (before after : State) (status : ℕ) : Type 0 where
+pub record IsStoreRun (from to : FileName) (file : List ℕ) (before after : State)
+    (status : ℕ) : Type 0 where
   pub result : Result ℕ WriteFault
-  pub stored : IsStored before.files after.files before.disk_failures after.disk_failures to file result
-  pub ends : EndsSending before.printed after.printed before.print_failures after.print_failures (λ fault. refusal_between from to (write_fault_for fault)) result status
+  pub stored : IsStored before.files after.files before.disk_failures after.disk_failures to file
+      result
+  pub ends : EndsSending before.printed after.printed before.print_failures after.print_failures
+      (λ fault. refusal_between from to (write_fault_for fault)) result status
 
 -- The output for the bytes at one path is stored at the other.
-pub record IsConverted (form : Form) (from to : FileName) (before after : State) (status : ℕ) : Type 0 where
+pub record IsConverted (form : Form) (from to : FileName) (before after : State)
+    (status : ℕ) : Type 0 where
   pub octets : List ℕ
   pub stands : Holds before.files from octets
   pub file : List ℕ
@@ -141,7 +151,8 @@ pub record IsConverted (form : Form) (from to : FileName) (before after : State)
 -- `convert FORM IN OUT`
 unfoldable pub IsConvertRun : Form → FileName → FileName → State → State → ℕ → Type 0
 IsConvertRun form from to before after status =
-    IsUnread from before after status ⊎ (IsAnswered (IsOutputRefusal form from) from before after status
+    IsUnread from before after status
+    ⊎ (IsAnswered (IsOutputRefusal form from) from before after status
     ⊎ IsConverted form from to before after status)
 
 -- the path of standard input and standard output in printed lines
@@ -162,7 +173,8 @@ pub record IsPrintedRun (path : FileName) (before after : State) (status : ℕ) 
   pub printed : Option (List ℕ)
   pub failures : ℕ
   pub written : IsWritten text before.printed printed before.print_failures failures sent
-  pub ends : EndsSending printed after.printed failures after.print_failures (λ fault. refusal_between path standard (write_fault_for fault)) sent status
+  pub ends : EndsSending printed after.printed failures after.print_failures
+      (λ fault. refusal_between path standard (write_fault_for fault)) sent status
 
 -- `print IN`
 unfoldable pub IsPrintRun : FileName → State → State → ℕ → Type 0
@@ -184,14 +196,16 @@ pub record IsTaken (input rest : Input) (octets : List ℕ) : Type 0 where
 abbrev pub IsUntaken : Input → Input → Fault → Type 0
 IsUntaken input rest refusal_kind.ReadFailed = rest.failures ≡ one_more input.failures
 IsUntaken input rest refusal_kind.InputTooLarge =
-    Takes input.to_come rest.to_come (λ taken. MAX_INPUT < length taken) × (rest.failures ≡ input.failures)
+    Takes input.to_come rest.to_come (λ taken. MAX_INPUT < length taken)
+    × (rest.failures ≡ input.failures)
 IsUntaken input rest (refusal_kind.OutOfMemory sent) = (sent ≡ 0) × (rest.failures ≡ input.failures)
 IsUntaken input rest _ = ⊥
 
 -- why there is no canonical file of the input: it was not loaded, or it is refused
 abbrev pub IsInputFault : Input → Input → Fault → Type 0
 IsInputFault input rest fault =
-    IsUntaken input rest fault ⊎ ((octets : List ℕ) × IsTaken input rest octets × IsRefused octets fault)
+    IsUntaken input rest fault
+    ⊎ ((octets : List ℕ) × IsTaken input rest octets × IsRefused octets fault)
 
 -- The input is refused, and only the line of the refusal is printed.
 pub record IsUnfiltered (input rest : Input) (before after : State) (status : ℕ) : Type 0 where
@@ -211,7 +225,8 @@ pub record IsFiltered (input rest : Input) (before after : State) (status : ℕ)
   pub printed : Option (List ℕ)
   pub failures : ℕ
   pub written : IsWritten file before.printed printed before.print_failures failures sent
-  pub ends : EndsSending printed after.printed failures after.print_failures (λ fault. refusal standard (write_fault_for fault)) sent status
+  pub ends : EndsSending printed after.printed failures after.print_failures
+      (λ fault. refusal standard (write_fault_for fault)) sent status
 
 -- no arguments
 unfoldable pub IsFilterRun : Input → Input → State → State → ℕ → Type 0

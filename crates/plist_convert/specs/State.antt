@@ -29,7 +29,8 @@ input_of to_come failures = record { to_come = to_come; failures = failures }
 
 -- the program ends with this text and status, or memory ran out before the line was made
 abbrev pub Ending : State → State → Said → ℕ → Type 0
-Ending before after s status = Ends before.printed after.printed before.print_failures after.print_failures s status
+Ending before after s status =
+    Ends before.printed after.printed before.print_failures after.print_failures s status
 
 -- memory ran out before the line was made
 abbrev pub Wanting : State → State → ℕ → Type 0

@@ -5,7 +5,8 @@ use Rattle.std.specs.Int.Signed.{◌≤ℤ◌, le_z}
 use Rattle.std.specs.List.{AllByRecursion-prop}
 use Rattle.std.proofs.Math.Dec.{T_prop}
 use Rattle.std.proofs.Math.Nat.{ℕ_set}
-use Rattle.plist_value.specs.Plist.{Scalar, text, whole, flag, real4, real8, moment, bytes, AllUnder, IsScalar, IsWhole, IsOctetsOf}
+use Rattle.plist_value.specs.Plist.{Scalar, text, whole, flag, real4, real8, moment, bytes}
+use Rattle.plist_value.specs.Plist.{AllUnder, IsScalar, IsWhole, IsOctetsOf}
 use Rattle.plist_object.specs.Objects.{Held, holds_scalar, holds_list, holds_table}
 use Rattle.plist_object.specs.Sizes.{IsSmall}
 use Rattle.plist_draft.specs.Stored.{AreKept, IsKept, Stores, IsDraft, helds_at}
@@ -17,10 +18,15 @@ AllUnder-prop bound xs = Π_prop (λ i. le_prop)
 ≤ℤ-prop y z = λ a b. λ i. record { le = T_prop (le_z y z) a.le b.le i }
 
 IsWhole-prop : (z : ℤ) → IsProp (IsWhole z)
-IsWhole-prop z = λ a b. λ i. record { least = ≤ℤ-prop _ _ a.least b.least i; most = ≤ℤ-prop _ _ a.most b.most i }
+IsWhole-prop z =
+    λ a b. λ i. record { least = ≤ℤ-prop _ _ a.least b.least i; most = ≤ℤ-prop _ _ a.most b.most i }
 
 IsOctetsOf-prop : (n : ℕ) (xs : List ℕ) → IsProp (IsOctetsOf n xs)
-IsOctetsOf-prop n xs = λ a b. λ i. record { long = ℕ_set _ _ a.long b.long i; octets = AllUnder-prop 256 xs a.octets b.octets i }
+IsOctetsOf-prop n xs =
+    λ a b. λ i. record {
+      long = ℕ_set _ _ a.long b.long i;
+      octets = AllUnder-prop 256 xs a.octets b.octets i;
+    }
 
 IsScalar-prop : (s : Scalar) → IsProp (IsScalar s)
 IsScalar-prop (text units) = AllUnder-prop 65536 units
@@ -41,7 +47,11 @@ IsSmall-prop (moment xs) = Unit-prop
 IsSmall-prop (bytes xs) = le_prop
 
 AreKept-prop : (refs : List ℕ) → IsProp (AreKept refs)
-AreKept-prop refs = λ a b. λ i. record { few = le_prop a.few b.few i; fit = AllUnder-prop 4294967296 refs a.fit b.fit i }
+AreKept-prop refs =
+    λ a b. λ i. record {
+      few = le_prop a.few b.few i;
+      fit = AllUnder-prop 4294967296 refs a.fit b.fit i;
+    }
 
 IsKept-prop : (held : Held) → IsProp (IsKept held)
 IsKept-prop (holds_scalar s) = ×_prop (IsScalar-prop s) (IsSmall-prop s)

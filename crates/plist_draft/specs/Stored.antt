@@ -1,5 +1,6 @@
 -- Objects stored one after another after the header of a file.
-use Rattle.std.specs.Prelude.{◌≡◌, ℕ, ◌<◌, ◌^◌, List, [], ◌++◌, length, map, drop, slice_get, Some, Result, Ok, Err}
+use Rattle.std.specs.Prelude.{◌≡◌, ℕ, ◌<◌, ◌^◌, List, [], ◌++◌, length, map, drop, slice_get, Some}
+use Rattle.std.specs.Prelude.{Result, Ok, Err}
 use Rattle.std.specs.List.{AllByRecursion, concat}
 use Rattle.plist_value.specs.Plist.{AllUnder, IsScalar}
 use Rattle.plist_object.specs.declared.object.ObjectFault.{ObjectFault}

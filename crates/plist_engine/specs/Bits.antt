@@ -1,5 +1,6 @@
 -- A bit for each scalar, which several may share.
-use Rattle.std.specs.Prelude.{◌≡◌, ℕ, pos, ◌≤◌, ◌/◌, ◌%◌, List, slice_index_or, bit_and, fold, max, nat_le, if◌then◌else◌, Option, Some, None}
+use Rattle.std.specs.Prelude.{◌≡◌, ℕ, pos, ◌≤◌, ◌/◌, ◌%◌, List, slice_index_or, bit_and, fold, max}
+use Rattle.std.specs.Prelude.{nat_le, if◌then◌else◌, Option, Some, None}
 use Rattle.std.specs.Int.{bit_at}
 use Rattle.std.specs.Hash as fed
 use Rattle.std.specs.Hash.FoldHasher as folding
@@ -27,11 +28,13 @@ KeepsBits old new = (n : ℕ) → HasBit old n → HasBit new n
 -- a hash of the seed and the scalar
 unfoldable pub fast_hash : ℕ → Scalar → ℕ
 fast_hash seed s =
-    folding.finish (fold folding.write (fold folding.write folding.initial (fed.u64 seed)) (fed_scalar s))
+    folding.finish
+    (fold folding.write (fold folding.write folding.initial (fed.u64 seed)) (fed_scalar s))
 
 -- a slower hash
 unfoldable pub strong_hash : ℕ → Scalar → ℕ
-strong_hash seed s = sip.finish (fold sip.write (fold sip.write sip.initial (fed.u64 seed)) (fed_scalar s))
+strong_hash seed s =
+    sip.finish (fold sip.write (fold sip.write sip.initial (fed.u64 seed)) (fed_scalar s))
 
 -- the hash of the scalar, or 0 for long data
 abbrev pub hash_of : ℕ → Scalar → ℕ

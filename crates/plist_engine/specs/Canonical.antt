@@ -13,7 +13,8 @@ abbrev pub object_octets : (ℕ → ℕ) → ℕ → ℕ → Plist → List ℕ
 object_octets number width k (scalar s) = scalar_spelling s
 object_octets number width k (list vs) = list_spelling width (map number (item_places (suc k) vs))
 object_octets number width k (table ps) =
-    table_spelling width (map number (key_places (suc k) ps)) (map number (value_places (suc k + length (key_texts ps)) ps))
+    table_spelling width (map number (key_places (suc k) ps))
+    (map number (value_places (suc k + length (key_texts ps)) ps))
 
 -- the objects of a tree in the order of their numbers; references have the least width that the
 -- number of objects fits in
@@ -29,7 +30,8 @@ trailer_octets count place = trailer_with (least_width place) (least_width count
 
 -- the file of objects, with least widths and the first object as its top
 abbrev pub file_of : List (List ℕ) → List ℕ
-file_of objects = file_with (least_width (8 + length (concat objects))) (least_width (length objects)) 0 objects
+file_of objects =
+    file_with (least_width (8 + length (concat objects))) (least_width (length objects)) 0 objects
 
 unfoldable pub canon : Plist → List ℕ
 canon v = file_of (objects_of (preorder v))

@@ -11,7 +11,8 @@ CanonSpellsItsValue = (v : Plist) → IsPlist v → Fits v → IsBinary (canon v
 
 -- two values within the limits are equal if and only if their canonical files are
 abbrev pub CanonTellsValuesApart : Type 0
-CanonTellsValuesApart = (v w : Plist) → IsPlist v → Fits v → IsPlist w → Fits w → (canon v ≡ canon w) ↔ (v ≡ w)
+CanonTellsValuesApart = (v w : Plist) → IsPlist v → Fits v → IsPlist w → Fits w
+    → (canon v ≡ canon w) ↔ (v ≡ w)
 
 -- a canonical file is not much longer than the payload of its value
 abbrev pub CanonIsShort : Type 0

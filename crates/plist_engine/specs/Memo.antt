@@ -53,14 +53,17 @@ pub record KeepsNumber (i number : ℕ) (old new : Memo) : Type 0 where
   pub others : (j : ℕ) → j ≢ i → kept new j ≡ kept old j
   pub as_many : length new.numbers.items ≡ length old.numbers.items
 
--- Objects without a number may be marked as single if the filter shows that they are. All others are
--- unchanged.
+-- Objects without a number may be marked as single if the filter shows that they are. All others
+-- are unchanged.
 pub record Marks (filter : RepeatFilter) (old new : List ℕ) : Type 0 where
   pub as_many : length new ≡ length old
-  pub each : (i : ℕ) → (kept_at new i ≡ kept_at old i) ⊎ ((kept_at old i ≡ no_number) × ((kept_at new i ≡ single) × ((i < length filter.bits.items) × IsUnlike filter i)))
+  pub each : (i : ℕ) → (kept_at new i ≡ kept_at old i)
+      ⊎ ((kept_at old i ≡ no_number)
+      × ((kept_at new i ≡ single) × ((i < length filter.bits.items) × IsUnlike filter i)))
 
 -- Objects of the file without a number may be marked as single if they are. All others are
 -- unchanged.
 pub record FindsSingles (f : List ℕ) (old new : Memo) : Type 0 where
   pub as_many : length new.numbers.items ≡ length old.numbers.items
-  pub each : (i : ℕ) → (kept new i ≡ kept old i) ⊎ ((kept old i ≡ no_number) × ((kept new i ≡ single) × IsSingle f i))
+  pub each : (i : ℕ) → (kept new i ≡ kept old i)
+      ⊎ ((kept old i ≡ no_number) × ((kept new i ≡ single) × IsSingle f i))

@@ -1,5 +1,6 @@
 -- Writing to a sink through a buffer.
-use Rattle.std.specs.Prelude.{◌≡◌, ℕ, ◌+◌, ◌<◌, ◌≤◌, ◌^◌, List, ◌++◌, length, take, Option, Result, OnOk, IfErr}
+use Rattle.std.specs.Prelude.{◌≡◌, ℕ, ◌+◌, ◌<◌, ◌≤◌, ◌^◌, List, ◌++◌, length, take, Option, Result}
+use Rattle.std.specs.Prelude.{OnOk, IfErr}
 use Rattle.std.specs.Borrow.{GName}
 use Rattle.std.specs.Io.KnownBytes.{Appends}
 use Rattle.plist_devices.specs.declared.sinks.Sink.{Ghosts}
@@ -59,7 +60,8 @@ pub record Stops (octets : List ℕ) (old new : State) (fault : WriteFault) : Ty
   pub taken : Appends old.taken new.taken (take more (old.waiting ++ octets))
   pub blamed : IsBlamed fault old.failures new.failures
 
-pub record Goes {T : Type 0} (octets : List ℕ) (old new : State) (result : Result T WriteFault) : Type 0 where
+pub record Goes {T : Type 0} (octets : List ℕ) (old new : State)
+    (result : Result T WriteFault) : Type 0 where
   pub stays : Stays old new
   pub done : OnOk result (Gathers octets old new)
   pub stopped : IfErr result (Stops octets old new)
@@ -70,15 +72,18 @@ pub record AreWithin (most : ℕ) (state : State) : Type 0 where
   pub pieces : state.longest ≤ most
 
 -- no piece is longer than `most`, and the buffer has space for `more` bytes within such a piece
-pub record LeavesRoom {T : Type 0} (most more : ℕ) (state : State) (result : Result T WriteFault) : Type 0 where
+pub record LeavesRoom {T : Type 0} (most more : ℕ) (state : State)
+    (result : Result T WriteFault) : Type 0 where
   pub waits : OnOk result (length state.waiting + more ≤ most)
   pub pieces : state.longest ≤ most
 
 -- If pieces may be as long as each of these objects, and as `more` bytes, then none is longer, as
 -- long as none was before.
-abbrev pub KeepsShort : {T : Type 0} → List (List ℕ) → ℕ → State → State → Result T WriteFault → Type 0
+abbrev pub KeepsShort : {T : Type 0} → List (List ℕ) → ℕ → State → State → Result T WriteFault
+    → Type 0
 KeepsShort objects more old new result =
-    (most : ℕ) → Allows most objects → more ≤ most → AreWithin most old → LeavesRoom most more new result
+    (most : ℕ) → Allows most objects → more ≤ most → AreWithin most old
+    → LeavesRoom most more new result
 
 -- the end of a file: the offset table with these offsets, and the trailer, which has its own
 abbrev pub end_of : List ℕ → ℕ → List ℕ

@@ -23,7 +23,8 @@ pub record AreSpellable (width : ℕ) (refs : List ℕ) : Type 0 where
 abbrev pub CanSpell : ℕ → Held → Type 0
 CanSpell width (holds_scalar s) = IsSmall s
 CanSpell width (holds_list refs) = AreSpellable width refs
-CanSpell width (holds_table keys values) = (length keys ≡ length values) × AreSpellable width keys × AreSpellable width values
+CanSpell width (holds_table keys values) = (length keys ≡ length values) × AreSpellable width keys
+    × AreSpellable width values
 
 abbrev pub CanSpellAll : ℕ → List Held → Type 0
 CanSpellAll width helds = AllByRecursion (CanSpell width) helds

@@ -1,5 +1,6 @@
 -- The walk over the objects of a file that plans the canonical file.
-use Rattle.std.specs.Prelude.{◌≡◌, ◌⊎◌, ℕ, suc, ◌+◌, ◌≤◌, Bool, false, if◌then◌else◌, List, [], ◌∷◌, ◌++◌, length, map, drop, take, Option, Some, None, Result, Ok, Err}
+use Rattle.std.specs.Prelude.{◌≡◌, ◌⊎◌, ℕ, suc, ◌+◌, ◌≤◌, Bool, false, if◌then◌else◌, List, [], ◌∷◌}
+use Rattle.std.specs.Prelude.{◌++◌, length, map, drop, take, Option, Some, None, Result, Ok, Err}
 use Rattle.plist_value.specs.Plist.{Scalar, Plist, scalar, Items, IsPlist, AreItems}
 use Rattle.plist_value.specs.Equality.{scalar_eq}
 use Rattle.plist_value.specs.Scalars.{content_of}
@@ -24,9 +25,13 @@ use Rattle.plist_engine.specs.declared.plan.Plan.{Plan}
 -- equally many pairs.
 abbrev pub IsLike : List ℕ → ℕ → Held → Type 0
 IsLike f i (holds_scalar s) = Holds f i (holds_scalar s)
-IsLike f i (holds_list refs) = (items : List ℕ) × (Holds f i (holds_list items) × (length refs ≡ length items))
+IsLike f i (holds_list refs) = (items : List ℕ)
+    × (Holds f i (holds_list items) × (length refs ≡ length items))
 IsLike f i (holds_table keys values) =
-    (held_keys : List ℕ) × ((held_values : List ℕ) × (Holds f i (holds_table held_keys held_values) × ((length keys ≡ length held_keys) × (length values ≡ length held_keys))))
+    (held_keys : List ℕ)
+    × ((held_values : List ℕ)
+    × (Holds f i (holds_table held_keys held_values)
+    × ((length keys ≡ length held_keys) × (length values ≡ length held_keys))))
 
 -- These objects of the file, with these references, which they take in order, have the content of
 -- the objects of another file.
@@ -35,7 +40,8 @@ StandFor f [] refs [] = refs ≡ []
 StandFor f [] refs (h ∷ hs) = ⊥
 StandFor f (i ∷ originals) refs [] = ⊥
 StandFor f (i ∷ originals) refs (h ∷ hs) =
-    IsLike f i h × ((behind : List ℕ) × ((refs ≡ references_of h ++ behind) × StandFor f originals behind hs))
+    IsLike f i h
+    × ((behind : List ℕ) × ((refs ≡ references_of h ++ behind) × StandFor f originals behind hs))
 
 -- whether the decoded content is this scalar
 abbrev pub is_held : Scalar → Result Held ObjectFault → Bool
@@ -62,28 +68,35 @@ pub record IsEmptyPlan {S H : Type 0} (plan : Plan S H) : Type 0 where
 
 -- the places below k are done: each scalar there is known with its number, and the plan has one
 -- object for each of them that has its own
-pub record IsReady {S H : Type 0} (f : List ℕ) (all : List Plist) (k : ℕ) (plan : Plan S H) : Type 0 where
+pub record IsReady {S H : Type 0} (f : List ℕ) (all : List Plist) (k : ℕ)
+    (plan : Plan S H) : Type 0 where
   pub known : (s : Scalar) → number_seen f plan s ≡ number_known all k s
   pub counted : length plan.originals.items ≡ count_below k (kept_places all)
 
 -- Objects with this content were added. Only the references from index `front` on are considered.
-pub record Grows {S H : Type 0} (f : List ℕ) (front : ℕ) (old new : Plan S H) (helds : List Held) : Type 0 where
+pub record Grows {S H : Type 0} (f : List ℕ) (front : ℕ) (old new : Plan S H)
+    (helds : List Held) : Type 0 where
   pub originals : List ℕ
   pub references : List ℕ
   pub originals_added : new.originals.items ≡ old.originals.items ++ originals
-  pub references_added : drop front new.references.items ≡ drop front old.references.items ++ references
+  pub references_added : drop front new.references.items ≡ drop front old.references.items
+      ++ references
   pub stand_for : StandFor f originals references helds
 
 -- the list `part`, which is at place k, was done
-pub record Adds {S H : Type 0} (f : List ℕ) (front : ℕ) (all : List Plist) (k : ℕ) (part : List Plist) (old new : Plan S H) : Type 0 where
+pub record Adds {S H : Type 0} (f : List ℕ) (front : ℕ) (all : List Plist) (k : ℕ)
+    (part : List Plist) (old new : Plan S H) : Type 0 where
   pub ready : IsReady f all (k + length part) new
   pub grows : Grows f front old new (found_in all k part)
 
--- The list `part` was done, wherever it is. If it is at place k, the numbers are those of the places
--- `places k`.
-pub record Walks {S H : Type 0} (f : List ℕ) (front : ℕ) (part : List Plist) (places : ℕ → List ℕ) (old new : Plan S H) (numbers : List ℕ) : Type 0 where
-  pub numbered : (all : List Plist) (k : ℕ) → OccursAt all k part → IsReady f all k old → numbers ≡ map (number_in all) (places k)
-  pub adds : (all : List Plist) (k : ℕ) → OccursAt all k part → IsReady f all k old → Adds f front all k part old new
+-- The list `part` was done, wherever it is. If it is at place k, the numbers are those of the
+-- places `places k`.
+pub record Walks {S H : Type 0} (f : List ℕ) (front : ℕ) (part : List Plist) (places : ℕ → List ℕ)
+    (old new : Plan S H) (numbers : List ℕ) : Type 0 where
+  pub numbered : (all : List Plist) (k : ℕ) → OccursAt all k part → IsReady f all k old
+      → numbers ≡ map (number_in all) (places k)
+  pub adds : (all : List Plist) (k : ℕ) → OccursAt all k part → IsReady f all k old
+      → Adds f front all k part old new
 
 abbrev pub WalksOne : {S H : Type 0} → List ℕ → ℕ → List Plist → Plan S H → Plan S H → ℕ → Type 0
 WalksOne f front part old new number = Walks f front part (λ k. k ∷ []) old new (number ∷ [])
@@ -99,7 +112,8 @@ WalksItems f front vs = Walks f front (preorder_items vs) (λ k. item_places k v
 
 -- One object was added, with this number and these references, which are still those of the input
 -- file.
-pub record Begins {S H : Type 0} (i : ℕ) (refs : List ℕ) (old new : Plan S H) (number : ℕ) : Type 0 where
+pub record Begins {S H : Type 0} (i : ℕ) (refs : List ℕ) (old new : Plan S H)
+    (number : ℕ) : Type 0 where
   pub number_is : number ≡ length old.originals.items
   pub scalars_kept : new.scalars ≡ old.scalars
   pub original_added : new.originals.items ≡ old.originals.items ++ (i ∷ [])
@@ -114,12 +128,14 @@ pub record IsRemembered {S H : Type 0} (f : List ℕ) (plan : Plan S H) (i numbe
 
 -- The scalar was visited in an object whose number is kept. The map contains it, or no other object
 -- does.
-pub record IsSeen {S H : Type 0} (f : List ℕ) (plan : Plan S H) (s : Scalar) (number : ℕ) : Type 0 where
+pub record IsSeen {S H : Type 0} (f : List ℕ) (plan : Plan S H) (s : Scalar)
+    (number : ℕ) : Type 0 where
   pub object : ℕ
   pub holds : Holds f object (holds_scalar s)
   pub is_kept : kept plan.memo object ≡ number
   pub some : IsNumber number
-  pub found : ((r : ScalarRef) → content_of r ≡ s → number_stored plan.scalars r ≡ Some number) ⊎ IsAlone f object
+  pub found : ((r : ScalarRef) → content_of r ≡ s → number_stored plan.scalars r ≡ Some number)
+      ⊎ IsAlone f object
 
 -- The memo and the map contain only numbers of the objects so far, and each scalar among these
 -- objects was visited.
@@ -128,28 +144,34 @@ pub record KnowsScalars {S H : Type 0} (f : List ℕ) (plan : Plan S H) : Type 0
   pub numbered : AreNumbered plan.scalars
   pub each : (i : ℕ) → IsNumber (kept plan.memo i) → IsRemembered f plan i (kept plan.memo i)
   pub singles : (i : ℕ) → kept plan.memo i ≡ single → IsSingle f i
-  pub stored : (r : ScalarRef) (n : ℕ) → number_stored plan.scalars r ≡ Some n → number_seen f plan (content_of r) ≡ Some n
+  pub stored : (r : ScalarRef) (n : ℕ) → number_stored plan.scalars r ≡ Some n
+      → number_seen f plan (content_of r) ≡ Some n
   pub seen : (s : Scalar) (n : ℕ) → number_seen f plan s ≡ Some n → IsSeen f plan s n
 
 -- the object contains the scalar, and was not visited
-pub record IsUnseen {S H : Type 0} (f : List ℕ) (i : ℕ) (s : Scalar) (plan : Plan S H) : Type 0 where
+pub record IsUnseen {S H : Type 0} (f : List ℕ) (i : ℕ) (s : Scalar)
+    (plan : Plan S H) : Type 0 where
   pub knows : KnowsScalars f plan
   pub holds : Holds f i (holds_scalar s)
   pub unseen : single ≤ kept plan.memo i
 
 -- The scalar of the object was entered in the map, or nothing was, since no other object contains
 -- it.
-abbrev pub MeetsScalar : {S H : Type 0} → Memo → ℕ → ScalarRef → ℕ → Scalars S H → Scalars S H → Option ℕ → Type 0
+abbrev pub MeetsScalar : {S H : Type 0} → Memo → ℕ → ScalarRef → ℕ → Scalars S H → Scalars S H
+    → Option ℕ → Type 0
 MeetsScalar memo i r next old new had =
-    (AreNumbered old → EntersScalar r next old new had) ⊎ ((had ≡ None) × ((new ≡ old) × (kept memo i ≡ single)))
+    (AreNumbered old → EntersScalar r next old new had)
+    ⊎ ((had ≡ None) × ((new ≡ old) × (kept memo i ≡ single)))
 
 -- The scalar of the object got a number.
-pub record NumbersScalar {S H : Type 0} (f : List ℕ) (i : ℕ) (s : Scalar) (old new : Plan S H) (number : ℕ) : Type 0 where
+pub record NumbersScalar {S H : Type 0} (f : List ℕ) (i : ℕ) (s : Scalar) (old new : Plan S H)
+    (number : ℕ) : Type 0 where
   pub walks : IsUnseen f i s old → WalksScalar f 0 s old new number
   pub references_kept : new.references.items ≡ old.references.items
 
 -- the value that the object encodes was walked, and references were only appended
-pub record IsWalked {S H : Type 0} (f : List ℕ) (i : ℕ) (old new : Plan S H) (number : ℕ) : Type 0 where
+pub record IsWalked {S H : Type 0} (f : List ℕ) (i : ℕ) (old new : Plan S H)
+    (number : ℕ) : Type 0 where
   pub value : Plist
   pub valid : IsPlist value
   pub spells : Spells f i value
@@ -158,7 +180,8 @@ pub record IsWalked {S H : Type 0} (f : List ℕ) (i : ℕ) (old new : Plan S H)
   pub references_added : new.references.items ≡ old.references.items ++ references
 
 -- the items that the objects encode were walked in order, and these are their numbers
-pub record ItemsWalked {S H : Type 0} (f : List ℕ) (front : ℕ) (refs : List ℕ) (old new : Plan S H) (numbers : List ℕ) : Type 0 where
+pub record ItemsWalked {S H : Type 0} (f : List ℕ) (front : ℕ) (refs : List ℕ) (old new : Plan S H)
+    (numbers : List ℕ) : Type 0 where
   pub items : Items
   pub valid : AreItems items
   pub spell : SpellItems f refs items
@@ -169,10 +192,12 @@ pub record ItemsWalked {S H : Type 0} (f : List ℕ) (front : ℕ) (refs : List 
 pub record AreWalked {S H : Type 0} (f : List ℕ) (first : ℕ) (old new : Plan S H) : Type 0 where
   pub numbers : List ℕ
   pub behind : List ℕ
-  pub walked : ItemsWalked f (length old.references.items) (drop first old.references.items) old new numbers
+  pub walked : ItemsWalked f (length old.references.items)
+      (drop first old.references.items) old new numbers
   pub as_many : length numbers ≡ length (drop first old.references.items)
   pub filled : new.references.items ≡ take first old.references.items ++ (numbers ++ behind)
 
 -- These are the objects of the canonical file of the value, in the order of their numbers.
 pub record AreObjectsOf (f : List ℕ) (v : Plist) (objects : Objects) : Type 0 where
-  pub stand_for : StandFor f objects.originals.items objects.references.items (found_in (preorder v) 0 (preorder v))
+  pub stand_for : StandFor f objects.originals.items objects.references.items
+      (found_in (preorder v) 0 (preorder v))

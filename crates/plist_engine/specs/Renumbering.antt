@@ -1,6 +1,7 @@
 -- The content of the objects of the canonical file, given by objects of another file and a list of
 -- references.
-use Rattle.std.specs.Prelude.{ℕ, ◌+◌, ◌≤◌, List, [], ◌∷◌, length, map, take, drop, Result, Ok, Err, ⊤}
+use Rattle.std.specs.Prelude.{ℕ, ◌+◌, ◌≤◌, List, [], ◌∷◌, length, map, take, drop, Result, Ok, Err}
+use Rattle.std.specs.Prelude.{⊤}
 use Rattle.plist_object.specs.declared.object.ObjectFault.{ObjectFault}
 use Rattle.plist_object.specs.Objects.{Held, holds_scalar, holds_list, holds_table}
 use Rattle.plist_object.specs.Places.{what_holds}
@@ -39,7 +40,9 @@ helds_of f (i ∷ originals) refs =
 abbrev pub AreSound : List ℕ → List ℕ → List ℕ → Type 0
 AreSound f [] refs = ⊤
 AreSound f (i ∷ originals) refs =
-    IsRead f i × ((reference_count (held_in f i) ≤ length refs) × AreSound f originals (drop (reference_count (held_in f i)) refs))
+    IsRead f i
+    × ((reference_count (held_in f i) ≤ length refs)
+    × AreSound f originals (drop (reference_count (held_in f i)) refs))
 
 -- the bytes of each object
 abbrev pub octets_for : ℕ → List ℕ → List ℕ → List ℕ → List (List ℕ)

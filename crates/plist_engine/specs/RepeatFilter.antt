@@ -19,12 +19,14 @@ HoldsIt f i s = what_holds f i ≡ Ok (holds_scalar s)
 
 -- an object with another bit than that of containers contains a scalar
 abbrev pub AreScalars : List ℕ → ℕ → List ℕ → Type 0
-AreScalars f i bits = (k : ℕ) → k < i → slice_index bits k ≢ no_bit → (r : ScalarRef) × HoldsIt f k (content_of r)
+AreScalars f i bits = (k : ℕ) → k < i → slice_index bits k ≢ no_bit → (r : ScalarRef)
+    × HoldsIt f k (content_of r)
 
 -- the objects before i were added: the bit of each that contains a scalar is kept
 pub record AreAdded (f : List ℕ) (i : ℕ) (builder : RepeatFilterBuilder) : Type 0 where
   pub added : length builder.bits.items ≡ i
-  pub kept : (k : ℕ) (s : Scalar) → k < i → HoldsIt f k s → slice_index builder.bits.items k ≡ bit_of builder.mask builder.seed s
+  pub kept : (k : ℕ) (s : Scalar) → k < i → HoldsIt f k s
+      → slice_index builder.bits.items k ≡ bit_of builder.mask builder.seed s
   pub are_scalars : AreScalars f i builder.bits.items
 
 -- no object was added
@@ -35,11 +37,13 @@ pub record AddsNone (old new : RepeatFilterBuilder) : Type 0 where
 
 -- each bit that occurs more than once among the first n is set
 abbrev pub AreSeenAgain : ℕ → List ℕ → Bits → Type 0
-AreSeenAgain n bits again = (j k : ℕ) → j < k → k < n → slice_index bits j ≡ slice_index bits k → HasBit again (slice_index bits k)
+AreSeenAgain n bits again = (j k : ℕ) → j < k → k < n → slice_index bits j ≡ slice_index bits k
+    → HasBit again (slice_index bits k)
 
 -- object i contains a scalar, and another may contain it
 abbrev pub MayRepeat : RepeatFilter → ℕ → Type 0
-MayRepeat filter i = (slice_index filter.bits.items i ≢ no_bit) × HasBit filter.again (slice_index filter.bits.items i)
+MayRepeat filter i = (slice_index filter.bits.items i ≢ no_bit)
+    × HasBit filter.again (slice_index filter.bits.items i)
 
 -- the bits show that object i contains a scalar, and that no other contains it
 abbrev pub IsUnlike : RepeatFilter → ℕ → Type 0
@@ -49,5 +53,6 @@ IsUnlike filter i = (slice_index filter.bits.items i ≢ no_bit) × (MayRepeat f
 -- another
 pub record HasAdded (f : List ℕ) (i : ℕ) (filter : RepeatFilter) : Type 0 where
   pub added : length filter.bits.items ≡ i
-  pub again : (j k : ℕ) (s : Scalar) → j < k → k < i → HoldsIt f j s → HoldsIt f k s → MayRepeat filter j × MayRepeat filter k
+  pub again : (j k : ℕ) (s : Scalar) → j < k → k < i → HoldsIt f j s → HoldsIt f k s
+      → MayRepeat filter j × MayRepeat filter k
   pub are_scalars : AreScalars f i filter.bits.items

@@ -1,5 +1,6 @@
 -- A map from scalars to numbers: some long data is in a list, and all others are in a hash map.
-use Rattle.std.specs.Prelude.{◌≡◌, ℕ, ◌<◌, nat_le, Bool, true, false, if◌then◌else◌, List, [], ◌∷◌, length, Option, Some, None}
+use Rattle.std.specs.Prelude.{◌≡◌, ℕ, ◌<◌, nat_le, Bool, true, false, if◌then◌else◌, List, [], ◌∷◌}
+use Rattle.std.specs.Prelude.{length, Option, Some, None}
 use Rattle.std.specs.Option.{option_or}
 use Rattle.std.specs.Ordering.{on}
 use Rattle.indexmap.specs.IndexMap.{get, IsUnchanged}
@@ -22,7 +23,8 @@ number_hashed known r = get (on content_of scalar_eq) known.hashed r
 
 -- the number of a scalar, if it has one: that in the list, or else that in the hash map
 abbrev pub number_stored : {S H : Type 0} → Scalars S H → ScalarRef → Option ℕ
-number_stored known r = option_or (number_listed known.listed.items (content_of r)) (number_hashed known r)
+number_stored known r =
+    option_or (number_listed known.listed.items (content_of r)) (number_hashed known r)
 
 -- data of at least 65,536 bytes
 abbrev pub is_long : Scalar → Bool
@@ -41,7 +43,8 @@ HasRoom known = length known.listed.items < 8
 
 -- The list contains only long data, and the hash map contains none while the list has space.
 pub record AreNumbered {S H : Type 0} (known : Scalars S H) : Type 0 where
-  pub short_hashed : (r : ScalarRef) → IsShort r → number_listed known.listed.items (content_of r) ≡ None
+  pub short_hashed : (r : ScalarRef) → IsShort r → number_listed known.listed.items (content_of r)
+      ≡ None
   pub long_listed : HasRoom known → (r : ScalarRef) → IsLong r → number_hashed known r ≡ None
 
 -- no scalar has a number
@@ -61,7 +64,11 @@ pub record KeepsScalars {S H : Type 0} (old new : Scalars S H) : Type 0 where
   pub hashed : IsUnchanged old.hashed new.hashed
 
 -- The scalar has the number that it had, or the next one if it had none. All others are unchanged.
-pub record EntersScalar {S H : Type 0} (shown : ScalarRef) (next : ℕ) (old new : Scalars S H) (had : Option ℕ) : Type 0 where
+pub record EntersScalar {S H : Type 0} (shown : ScalarRef) (next : ℕ) (old new : Scalars S H)
+    (had : Option ℕ) : Type 0 where
   pub numbered : AreNumbered new
   pub had_is : had ≡ number_stored old shown
-  pub each : (r : ScalarRef) → number_stored new r ≡ option_or (number_stored old r) (if scalar_eq (content_of shown) (content_of r) then Some next else None)
+  pub each : (r : ScalarRef)
+      → number_stored new r
+      ≡ option_or (number_stored old r) (if scalar_eq (content_of shown) (content_of r)
+      then Some next else None)

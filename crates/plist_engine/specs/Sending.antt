@@ -38,11 +38,13 @@ IsShort fault out all = out < all
 
 -- If the call succeeds, it returns the size of the file, and the sink took the file without a
 -- failure. If it fails, exactly the prefix was written whose length the error gives, and not all.
-pub record IsWritten (file : List ℕ) (old new : Option (List ℕ)) (before after : ℕ) (result : Result ℕ WriteFault) : Type 0 where
+pub record IsWritten (file : List ℕ) (old new : Option (List ℕ)) (before after : ℕ)
+    (result : Result ℕ WriteFault) : Type 0 where
   pub count : IfOk result (λ n. n ≡ length file)
   pub whole : IfOk result (λ _. Appends old new file × (after ≡ before))
   pub within : IfErr result (λ fault. IsShort fault (sent_of fault) (length file))
-  pub front : IfErr result (λ fault. Appends old new (take (sent_of fault) file) × IsBlamed fault before after)
+  pub front : IfErr result (λ fault. Appends old new (take (sent_of fault) file)
+      × IsBlamed fault before after)
 
 -- A piece may have `most` bytes: at least 4,096, and at least the length of each of these objects.
 pub record Allows (most : ℕ) (objects : List (List ℕ)) : Type 0 where
@@ -51,4 +53,5 @@ pub record Allows (most : ℕ) (objects : List (List ℕ)) : Type 0 where
 
 -- If no piece was longer than 4,096 bytes or the longest of these objects, none is now.
 abbrev pub ArePieces : List (List ℕ) → ℕ → ℕ → Type 0
-ArePieces objects longest now_longest = (most : ℕ) → Allows most objects → longest ≤ most → now_longest ≤ most
+ArePieces objects longest now_longest = (most : ℕ) → Allows most objects → longest ≤ most
+    → now_longest ≤ most

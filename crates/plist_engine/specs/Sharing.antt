@@ -1,6 +1,7 @@
 -- Which places of a tree have their own object, and how objects are numbered: each container has
 -- one, and equal scalars share the object of the first of them.
-use Rattle.std.specs.Prelude.{ℕ, suc, ◌==◌, nat_lt, if◌then◌else◌, Bool, false, List, [], ◌∷◌, slice_index_or}
+use Rattle.std.specs.Prelude.{ℕ, suc, ◌==◌, nat_lt, if◌then◌else◌, Bool, false, List, [], ◌∷◌}
+use Rattle.std.specs.Prelude.{slice_index_or}
 use Rattle.plist_value.specs.Plist.{Scalar, Plist, scalar, list, table, no_items}
 use Rattle.plist_value.specs.Equality.{scalar_eq}
 
@@ -35,7 +36,8 @@ kept_places all = kept_from all 0 all
 -- the number of places below n
 abbrev pub count_below : ℕ → List (ℕ × Plist) → ℕ
 count_below n [] = 0
-count_below n (p ∷ places) = let others = count_below n places in if nat_lt p.0 n then suc others else others
+count_below n (p ∷ places) = let others = count_below n places in if nat_lt p.0 n then suc others
+    else others
 
 -- the value at place k, an empty array past the end
 abbrev pub value_at : List Plist → ℕ → Plist

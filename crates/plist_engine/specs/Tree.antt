@@ -1,6 +1,7 @@
 -- The sorted tree of a value, and where the children of its containers are in it.
 use Rattle.std.specs.Prelude.{ℕ, suc, ◌+◌, List, [], ◌∷◌, ◌++◌}
-use Rattle.plist_value.specs.Plist.{text, Plist, scalar, list, table, Items, no_items, item, Pairs, no_pairs, pair}
+use Rattle.plist_value.specs.Plist.{text, Plist, scalar, list, table, Items, no_items, item, Pairs}
+use Rattle.plist_value.specs.Plist.{no_pairs, pair}
 use Rattle.plist_value.specs.Limits.{nodes}
 
 -- the keys of a dictionary as strings, in order

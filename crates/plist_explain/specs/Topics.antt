@@ -1,5 +1,7 @@
 -- What can be explained, the words that name it, and what is printed.
-use Rattle.std.specs.Prelude.{◌≡◌, ◌<◌, ◌==◌, ℕ, Bool, List, [], ◌∷◌, Option, Some, None, ◌++◌, ◌||◌, codes, drop, find, flat_map, if◌then◌else◌, length, map, nat_eq, option_map, unwrap_or}
+use Rattle.std.specs.Prelude.{◌≡◌, ◌<◌, ◌==◌, ℕ, Bool, List, [], ◌∷◌, Option, Some, None, ◌++◌}
+use Rattle.std.specs.Prelude.{◌||◌, codes, drop, find, flat_map, if◌then◌else◌, length, map, nat_eq}
+use Rattle.std.specs.Prelude.{option_map, unwrap_or}
 use Rattle.std.specs.Borrow.{Bor}
 use Rattle.std.specs.List.{before_first, starts_with}
 use Rattle.std.specs.Option.{option_or}
@@ -79,7 +81,8 @@ line_of entry = label entry.subject ++ (codes ": " ++ (entry.meaning ++ codes "\
 -- an entry in full: its line, an empty line, and its text
 abbrev pub explained : Entry → List ℕ
 explained entry =
-    label entry.subject ++ (codes ": " ++ (entry.meaning ++ (codes "\n\n" ++ (entry.text ++ codes "\n"))))
+    label entry.subject
+    ++ (codes ": " ++ (entry.meaning ++ (codes "\n\n" ++ (entry.text ++ codes "\n"))))
 
 -- what is printed for a text, by the word in it
 abbrev pub explanation_of : List ℕ → Option (List ℕ)

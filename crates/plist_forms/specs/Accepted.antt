@@ -14,7 +14,8 @@ begins_as_binary octets = starts_with nat_eq octets (codes "bplist")
 -- a text.
 abbrev pub IsAccepted : List ℕ → Plist → Type 0
 IsAccepted octets v =
-    ((begins_as_binary octets ≡ true) × IsBinary octets v) ⊎ ((begins_as_binary octets ≡ false) × IsText octets v)
+    ((begins_as_binary octets ≡ true) × IsBinary octets v)
+    ⊎ ((begins_as_binary octets ≡ false) × IsText octets v)
 
 -- the bytes are the canonical file of the value that the source encodes
 pub record IsCanonicalOf (source octets : List ℕ) : Type 0 where

@@ -28,7 +28,8 @@ CanonicalIsAccepted =
 -- if a value within the limits has an OpenStep text, that text is accepted and encodes the value
 abbrev pub WrittenIsAccepted : Type 0
 WrittenIsAccepted =
-    (v : Plist) (octets : List ℕ) → IsPlist v → Fits v → text_of v ≡ Some octets → IsAccepted octets v
+    (v : Plist) (octets : List ℕ) → IsPlist v → Fits v → text_of v ≡ Some octets
+    → IsAccepted octets v
 
 -- Two canonical files are equal byte for byte if and only if the values are. Each is accepted,
 -- encodes the value of its source, and is its own canonical file.

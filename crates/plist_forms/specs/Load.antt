@@ -2,7 +2,8 @@
 use Rattle.std.specs.Prelude.{◌≡◌, ◌≢◌, ℕ, ◌≤◌, List, ◌++◌, length, take, Option, Some, None, Vec}
 use Rattle.std.specs.Io.KnownBytes.{Consumes}
 use Rattle.plist_forms.specs.declared.faults.Fault.{Fault}
-use Rattle.plist_forms.specs.declared.faults.Fault.TheVariants.{ReadFailed, InputTooLarge, OutOfMemory}
+use Rattle.plist_forms.specs.declared.faults.Fault.TheVariants.{ReadFailed, InputTooLarge}
+use Rattle.plist_forms.specs.declared.faults.Fault.TheVariants.{OutOfMemory}
 use Rattle.plist_forms.specs.declared.taken.Taken.{Taken}
 use Rattle.plist_forms.specs.declared.taken.Taken.TheVariants.{Known, Other}
 

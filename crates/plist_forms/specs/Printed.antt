@@ -16,7 +16,8 @@ pub record IsPrintOf (octets text : List ℕ) : Type 0 where
   pub is : text ≡ printed value
 
 -- The printed text is sent: all of it, or exactly a prefix, if the sink failed or memory ran out.
-pub record IsPrinted (octets : List ℕ) (old new : Option (List ℕ)) (before after : ℕ) (result : Result ℕ Fault) : Type 0 where
+pub record IsPrinted (octets : List ℕ) (old new : Option (List ℕ)) (before after : ℕ)
+    (result : Result ℕ Fault) : Type 0 where
   pub text : List ℕ
   pub of : IsPrintOf octets text
   pub sent : Result ℕ WriteFault
@@ -26,4 +27,5 @@ pub record IsPrinted (octets : List ℕ) (old new : Option (List ℕ)) (before a
 -- the outcome of printing: the input is refused and nothing is sent, or its text is sent
 abbrev pub Prints : List ℕ → Option (List ℕ) → Option (List ℕ) → ℕ → ℕ → Result ℕ Fault → Type 0
 Prints octets old new before after result =
-    IsUnsent (IsRefused octets) old new before after result ⊎ IsPrinted octets old new before after result
+    IsUnsent (IsRefused octets) old new before after result
+    ⊎ IsPrinted octets old new before after result

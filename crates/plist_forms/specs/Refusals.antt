@@ -8,7 +8,9 @@ use Rattle.ostep_text.specs.declared.fault.TextFault.TheVariants as text
 use Rattle.plist_forms.specs.Accepted.{IsAccepted, begins_as_binary}
 use Rattle.plist_forms.specs.Fault.{code_of}
 use Rattle.plist_forms.specs.declared.faults.Fault.{Fault}
-use Rattle.plist_forms.specs.declared.faults.Fault.TheVariants.{Binary, Text, NotInOpenStep, ReadFailed, WriteFailed, InputTooLarge, OutOfMemory}
+use Rattle.plist_forms.specs.declared.faults.Fault.TheVariants.{Binary, Text, NotInOpenStep}
+use Rattle.plist_forms.specs.declared.faults.Fault.TheVariants.{ReadFailed, WriteFailed}
+use Rattle.plist_forms.specs.declared.faults.Fault.TheVariants.{InputTooLarge, OutOfMemory}
 
 -- The fault is true of the input, at its place, and belongs to the form that it is read as. Out of
 -- memory says nothing of the input. It has its own name, not a reader's, and occurs before anything

@@ -17,7 +17,8 @@ answer_of (Ok sent) = Ok sent
 answer_of (Err fault) = Err (write_fault_for fault)
 
 -- The call is refused for this cause before anything was sent, and the sink did not fail.
-pub record IsUnsent (Cause : Fault → Type 0) (old new : Option (List ℕ)) (before after : ℕ) (result : Result ℕ Fault) : Type 0 where
+pub record IsUnsent (Cause : Fault → Type 0) (old new : Option (List ℕ)) (before after : ℕ)
+    (result : Result ℕ Fault) : Type 0 where
   pub fault : Fault
   pub is : result ≡ Err fault
   pub cause : Cause fault

@@ -1,7 +1,8 @@
 -- The exit statuses.
 use Rattle.std.specs.Prelude.{ℕ}
 use Rattle.plist_forms.specs.declared.statuses.Status.{Status}
-use Rattle.plist_forms.specs.declared.statuses.Status.TheVariants.{Done, Differs, Refused, BadWords, DeviceFailed, NoMemory}
+use Rattle.plist_forms.specs.declared.statuses.Status.TheVariants.{Done, Differs, Refused, BadWords}
+use Rattle.plist_forms.specs.declared.statuses.Status.TheVariants.{DeviceFailed, NoMemory}
 
 abbrev pub status_code : Status → ℕ
 status_code Done = 0

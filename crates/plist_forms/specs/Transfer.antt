@@ -12,7 +12,8 @@ use Rattle.plist_forms.specs.Output.{IsOutput, IsOutputFault}
 
 -- The output for the input is sent: all of it, or exactly a prefix, if the sink failed or memory
 -- ran out.
-pub record IsSent (form : Form) (octets : List ℕ) (old new : Option (List ℕ)) (before after : ℕ) (result : Result ℕ Fault) : Type 0 where
+pub record IsSent (form : Form) (octets : List ℕ) (old new : Option (List ℕ)) (before after : ℕ)
+    (result : Result ℕ Fault) : Type 0 where
   pub output : List ℕ
   pub of : IsOutput form octets output
   pub sent : Result ℕ WriteFault
@@ -20,9 +21,11 @@ pub record IsSent (form : Form) (octets : List ℕ) (old new : Option (List ℕ)
   pub written : IsWritten output old new before after sent
 
 -- the outcome of writing the value of loaded bytes
-abbrev pub Writes : Form → List ℕ → Option (List ℕ) → Option (List ℕ) → ℕ → ℕ → Result ℕ Fault → Type 0
+abbrev pub Writes : Form → List ℕ → Option (List ℕ) → Option (List ℕ) → ℕ → ℕ → Result ℕ Fault
+    → Type 0
 Writes form octets old new before after result =
-    IsUnsent (IsOutputFault form octets) old new before after result ⊎ IsSent form octets old new before after result
+    IsUnsent (IsOutputFault form octets) old new before after result
+    ⊎ IsSent form octets old new before after result
 
 -- The bytes are all that the source had to give, and within the maximum.
 pub record IsInput (to_come rest : Option (List ℕ)) (octets : List ℕ) : Type 0 where
@@ -32,7 +35,9 @@ pub record IsInput (to_come rest : Option (List ℕ)) (octets : List ℕ) : Type
 
 -- Loading failed and nothing was sent, or the bytes were loaded and their value was written or
 -- refused.
-abbrev pub IsTransfer : Form → Option (List ℕ) → Option (List ℕ) → Option (List ℕ) → Option (List ℕ) → ℕ → ℕ → Result ℕ Fault → Type 0
+abbrev pub IsTransfer : Form → Option (List ℕ) → Option (List ℕ) → Option (List ℕ) → Option (List ℕ)
+    → ℕ → ℕ → Result ℕ Fault → Type 0
 IsTransfer form to_come rest old new before after result =
     IsUnsent IsLoadFault old new before after result
-    ⊎ ((octets : List ℕ) × IsInput to_come rest octets × Writes form octets old new before after result)
+    ⊎ ((octets : List ℕ) × IsInput to_come rest octets
+    × Writes form octets old new before after result)

@@ -1,5 +1,7 @@
 -- How dates are printed: the seconds since 2001 and, in parentheses, date and time in UTC.
-use Rattle.std.specs.Prelude.{ℕ, zero, suc, ◌+◌, ◌-◌, ◌*◌, ◌/◌, ◌%◌, ◌^◌, Bool, ◌&&◌, ◌||◌, ◌==◌, nat_le, nat_lt, List, [], ◌++◌, Option, Some, None, codes, if◌then◌else◌}
+use Rattle.std.specs.Prelude.{ℕ, zero, suc, ◌+◌, ◌-◌, ◌*◌, ◌/◌, ◌%◌, ◌^◌, Bool, ◌&&◌, ◌||◌, ◌==◌}
+use Rattle.std.specs.Prelude.{nat_le, nat_lt, List, [], ◌++◌, Option, Some, None, codes}
+use Rattle.std.specs.Prelude.{if◌then◌else◌}
 use Rattle.std.specs.Option.{option_and_then}
 use Rattle.byteorder.specs.Endian.{big_number}
 use Rattle.plist_print.specs.Reals.{double, decimal_of, last_digits, printed_real}
@@ -38,12 +40,17 @@ printed_day day =
     let year = year_of day in
     let left = day - days_before year in
     let month = month_of year left in
-    last_digits 4 year ++ (codes "-" ++ (last_digits 2 month ++ (codes "-" ++ last_digits 2 (left - days_of_months year (month - 1) + 1))))
+    last_digits 4 year
+    ++ (codes "-"
+    ++ (last_digits 2 month
+    ++ (codes "-" ++ last_digits 2 (left - days_of_months year (month - 1) + 1))))
 
 -- hour, minute and second, such as 19:54:22
 unfoldable pub printed_time : ℕ → List ℕ
 printed_time second =
-    last_digits 2 (second / 3600) ++ (codes ":" ++ (last_digits 2 (second / 60 % 60) ++ (codes ":" ++ last_digits 2 (second % 60))))
+    last_digits 2 (second / 3600)
+    ++ (codes ":"
+    ++ (last_digits 2 (second / 60 % 60) ++ (codes ":" ++ last_digits 2 (second % 60))))
 
 -- date and time of this second after 0001-01-01T00:00:00Z, such as 2025-11-22T19:54:22Z
 unfoldable pub printed_moment : ℕ → List ℕ
@@ -56,13 +63,15 @@ abbrev pub second_at : Bool → ℕ → Option ℕ
 second_at negative seconds =
     let start = 86400 * days_before 2001 in
     if negative then (if nat_le seconds start then Some (start - seconds) else None)
-    else (if nat_lt (start + seconds) (86400 * days_before 10000) then Some (start + seconds) else None)
+    else (if nat_lt (start + seconds) (86400 * days_before 10000) then Some (start + seconds)
+    else None)
 
 -- the second of the bytes of a date, if its decimal ends with `.0`
 unfoldable pub second_of : List ℕ → Option ℕ
 second_of xs =
     let bits = big_number 8 xs in
-    let second : ℕ × ℕ → Option ℕ = λ d. if (d.1 == 1) && (d.0 % 10 == 0) then second_at (nat_le (2 ^ 63) bits) (d.0 / 10) else None in
+    let second : ℕ × ℕ → Option ℕ = λ d. if (d.1 == 1) && (d.0 % 10 == 0)
+    then second_at (nat_le (2 ^ 63) bits) (d.0 / 10) else None in
     option_and_then second (decimal_of double (bits % 2 ^ 63))
 
 -- date and time in parentheses, after a space

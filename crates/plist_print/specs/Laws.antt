@@ -12,9 +12,11 @@ PrintTellsValuesApart = (v w : Plist) → IsPlist v → IsPlist w → (printed v
 -- equal
 abbrev pub PrintIsKnownByItsFront : Type 0
 PrintIsKnownByItsFront =
-    (level : ℕ) (v w : Plist) (r s : List ℕ) → IsPlist v → IsPlist w → printed_at level v ++ r ≡ printed_at level w ++ s → (v ≡ w) × (r ≡ s)
+    (level : ℕ) (v w : Plist) (r s : List ℕ) → IsPlist v → IsPlist w
+    → printed_at level v ++ r ≡ printed_at level w ++ s → (v ≡ w) × (r ≡ s)
 
 -- the maximum length of a printed text
 abbrev pub PrintIsBounded : Type 0
 PrintIsBounded =
-    (v : Plist) → IsPlist v → length (printed v) ≤ 5 * payload v + (70 + 4 * min (depth v) 32) * nodes v
+    (v : Plist) → IsPlist v → length (printed v) ≤ 5 * payload v + (70 + 4 * min (depth v) 32)
+    * nodes v

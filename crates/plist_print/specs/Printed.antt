@@ -1,8 +1,11 @@
 -- The printed text of a value.
-use Rattle.std.specs.Prelude.{ℕ, suc, ◌+◌, ◌*◌, ◌/◌, min, true, false, nat_le, List, [], ◌∷◌, ◌++◌, length, replicate, flat_map, codes, if◌then◌else◌}
+use Rattle.std.specs.Prelude.{ℕ, suc, ◌+◌, ◌*◌, ◌/◌, min, true, false, nat_le, List, [], ◌∷◌, ◌++◌}
+use Rattle.std.specs.Prelude.{length, replicate, flat_map, codes, if◌then◌else◌}
 use Rattle.std.specs.Simd.{first_chunks}
 use Rattle.std.specs.Fmt.{signed_decimal}
-use Rattle.plist_value.specs.Plist.{Scalar, text, whole, flag, real4, real8, moment, bytes, Plist, scalar, list, table, Items, no_items, item, Pairs, no_pairs, pair}
+use Rattle.plist_value.specs.Plist.{Scalar, text, whole, flag, real4, real8, moment, bytes, Plist}
+use Rattle.plist_value.specs.Plist.{scalar, list, table, Items, no_items, item, Pairs, no_pairs}
+use Rattle.plist_value.specs.Plist.{pair}
 use Rattle.plist_value.specs.Digits.{two_digits}
 use Rattle.plist_print.specs.Units.{printed_data, printed_text}
 use Rattle.plist_print.specs.Reals.{single, double, printed_real}
@@ -25,12 +28,14 @@ indent level = replicate (2 * min level 32) 32
 
 -- an opening bracket, lines, and the closing bracket on a line of this level
 abbrev pub enclosed : ℕ → ℕ → ℕ → List ℕ → List ℕ
-enclosed level open_with close_with lines = open_with ∷ 10 ∷ (lines ++ (indent level ++ (close_with ∷ 10 ∷ [])))
+enclosed level open_with close_with lines =
+    open_with ∷ 10 ∷ (lines ++ (indent level ++ (close_with ∷ 10 ∷ [])))
 
 -- lines of 32 bytes after these spaces, the last with the rest
 abbrev pub octet_lines : List ℕ → List ℕ → List ℕ
 octet_lines blanks xs =
-    flat_map (λ line. blanks ++ (flat_map two_digits line ++ codes "\n")) (first_chunks 32 ((length xs + 31) / 32) xs)
+    flat_map (λ line. blanks ++ (flat_map two_digits line ++ codes "\n"))
+    (first_chunks 32 ((length xs + 31) / 32) xs)
 
 -- A scalar up to the end of its last line. More than 32 bytes of data take several lines.
 abbrev pub printed_line : ℕ → Scalar → List ℕ
@@ -57,7 +62,8 @@ abbrev mutual
   pub printed_pairs : ℕ → Pairs → List ℕ
   printed_pairs level no_pairs = []
   printed_pairs level (pair key v ps) =
-      indent level ++ (printed_text key ++ (codes " => " ++ (printed_at level v ++ printed_pairs level ps)))
+      indent level
+      ++ (printed_text key ++ (codes " => " ++ (printed_at level v ++ printed_pairs level ps)))
 
 -- the complete text
 abbrev pub printed : Plist → List ℕ

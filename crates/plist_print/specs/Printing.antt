@@ -1,7 +1,9 @@
 -- Printed texts as a notation.
 use Rattle.std.specs.Prelude.{ℕ, List, [], ◌++◌, codes}
 use Rattle.plist_engine.specs.declared.notation.Mark.{Mark}
-use Rattle.plist_engine.specs.declared.notation.Mark.TheVariants.{EmptyList, ListStart, ListEnd, ItemEnd, EmptyTable, TableStart, TableEnd, PairEnd, TextEnd}
+use Rattle.plist_engine.specs.declared.notation.Mark.TheVariants.{EmptyList, ListStart, ListEnd}
+use Rattle.plist_engine.specs.declared.notation.Mark.TheVariants.{ItemEnd, EmptyTable, TableStart}
+use Rattle.plist_engine.specs.declared.notation.Mark.TheVariants.{TableEnd, PairEnd, TextEnd}
 use Rattle.plist_engine.specs.Notation.{Parts}
 use Rattle.plist_print.specs.Units.{printed_text}
 use Rattle.plist_print.specs.Printed.{indent, printed_line}
@@ -22,4 +24,9 @@ printed_mark PairEnd = []
 printed_mark TextEnd = []
 
 abbrev pub printed_parts : Parts
-printed_parts = record { scalar_text = printed_line; line_start = indent; pair_start = pair_head; mark_text = printed_mark }
+printed_parts = record {
+  scalar_text = printed_line;
+  line_start = indent;
+  pair_start = pair_head;
+  mark_text = printed_mark;
+}

@@ -1,5 +1,7 @@
 -- How reals are printed: IEEE 754 binary32 and binary64, given by their bytes.
-use Rattle.std.specs.Prelude.{ℕ, zero, suc, ◌+◌, ◌-◌, ◌*◌, ◌/◌, ◌%◌, ◌^◌, Bool, ◌&&◌, ◌==◌, nat_le, nat_lt, List, [], ◌∷◌, ◌++◌, Option, Some, None, codes, decimal, if◌then◌else◌}
+use Rattle.std.specs.Prelude.{ℕ, zero, suc, ◌+◌, ◌-◌, ◌*◌, ◌/◌, ◌%◌, ◌^◌, Bool, ◌&&◌, ◌==◌, nat_le}
+use Rattle.std.specs.Prelude.{nat_lt, List, [], ◌∷◌, ◌++◌, Option, Some, None, codes, decimal}
+use Rattle.std.specs.Prelude.{if◌then◌else◌}
 use Rattle.std.specs.Fmt.{sign_text}
 use Rattle.byteorder.specs.Endian.{big_number}
 use Rattle.plist_print.specs.Units.{printed_data}
@@ -17,15 +19,30 @@ pub record Format : Type 0 where
 
 -- four bytes; decimals below 2^25
 abbrev pub single : Format
-single = record { octets = 4; sign = 2 ^ 31; hidden = 2 ^ 23; infinite = 0x7f80_0000; one = 149; to = 152 }
+single = record {
+  octets = 4;
+  sign = 2 ^ 31;
+  hidden = 2 ^ 23;
+  infinite = 0x7f80_0000;
+  one = 149;
+  to = 152;
+}
 
 -- eight bytes; decimals below 2^54
 abbrev pub double : Format
-double = record { octets = 8; sign = 2 ^ 63; hidden = 2 ^ 52; infinite = 0x7ff0_0000_0000_0000; one = 1074; to = 1077 }
+double = record {
+  octets = 8;
+  sign = 2 ^ 63;
+  hidden = 2 ^ 52;
+  infinite = 0x7ff0_0000_0000_0000;
+  one = 1074;
+  to = 1077;
+}
 
 -- The real above 0 with these bits, as a multiple of the least real above 0.
 unfoldable pub value_of : ℕ → ℕ → ℕ
-value_of hidden bits = if nat_lt bits hidden then bits else (hidden + bits % hidden) * 2 ^ (bits / hidden - 1)
+value_of hidden bits = if nat_lt bits hidden then bits
+    else (hidden + bits % hidden) * 2 ^ (bits / hidden - 1)
 
 -- A real with its neighbours: the next below it, itself, the next above it, and 1, as multiples of
 -- the same number.
@@ -42,20 +59,27 @@ nearest x over = (2 * (x.here * over) + x.unit) / (2 * x.unit)
 -- n / over reads as the real: it is between the midpoints to the neighbours, the lower one included
 abbrev pub reads_as : Placed → ℕ → ℕ → Bool
 reads_as x over n =
-    nat_le ((x.below + x.here) * over) (2 * (n * x.unit)) && nat_lt (2 * (n * x.unit)) ((x.here + x.above) * over)
+    nat_le ((x.below + x.here) * over) (2 * (n * x.unit))
+    && nat_lt (2 * (n * x.unit)) ((x.here + x.above) * over)
 
 -- The decimal with the fewest digits after the decimal point that reads as the real, as its
 -- numerator and the number of these digits. The numbers of digits are tried from the given one on.
 abbrev pub shortest : Placed → ℕ → ℕ → Option (ℕ × ℕ)
 shortest x zero digits = None
 shortest x (suc more) digits =
-    if reads_as x (10 ^ digits) (nearest x (10 ^ digits)) then Some (nearest x (10 ^ digits), digits)
+    if reads_as x (10 ^ digits) (nearest x (10 ^ digits))
+    then Some (nearest x (10 ^ digits), digits)
     else shortest x more (suc digits)
 
 -- the real with these bits; the next below 0 is 0
 abbrev pub placed_in : Format → ℕ → Placed
 placed_in f bits =
-    record { below = value_of f.hidden (bits - 1); here = value_of f.hidden bits; above = value_of f.hidden (suc bits); unit = 2 ^ f.one }
+    record {
+      below = value_of f.hidden (bits - 1);
+      here = value_of f.hidden bits;
+      above = value_of f.hidden (suc bits);
+      unit = 2 ^ f.one;
+    }
 
 -- with 1 to 21 digits after the decimal point
 unfoldable pub decimal_of : Format → ℕ → Option (ℕ × ℕ)

@@ -1,5 +1,6 @@
 -- What the types of the code represent.
-use Rattle.std.specs.Prelude.{ℕ, ◌+◌, ◌-◌, ◌*◌, ◌^◌, ◌<◌, ◌≤◌, Bool, true, false, nat_lt, if◌then◌else◌}
+use Rattle.std.specs.Prelude.{ℕ, ◌+◌, ◌-◌, ◌*◌, ◌^◌, ◌<◌, ◌≤◌, Bool, true, false, nat_lt}
+use Rattle.std.specs.Prelude.{if◌then◌else◌}
 use Rattle.plist_value.specs.Plist.{Scalar, text, bytes}
 use Rattle.plist_print.specs.Reals.{Placed}
 use Rattle.plist_print.specs.declared.kept.Decimal.{Decimal}
@@ -25,7 +26,8 @@ halved hidden t shift = record {
 -- No multiple of 1 / over is between the midpoints to the neighbours, so none reads as the real.
 abbrev pub IsUnread : Placed → ℕ → Type 0
 IsUnread x over =
-    (n : ℕ) → (x.below + x.here) * over ≤ 2 * (n * x.unit) → 2 * (n * x.unit) < (x.here + x.above) * over → ⊥
+    (n : ℕ) → (x.below + x.here) * over ≤ 2 * (n * x.unit)
+    → 2 * (n * x.unit) < (x.here + x.above) * over → ⊥
 
 -- neither a string nor data
 abbrev pub is_short : Scalar → Bool

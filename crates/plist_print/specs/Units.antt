@@ -1,10 +1,13 @@
 -- How strings are printed.
-use Rattle.std.specs.Prelude.{ℕ, ◌/◌, ◌%◌, Bool, true, false, not, ◌&&◌, ◌||◌, ◌==◌, List, [], ◌∷◌, ◌++◌, codes, flat_map, if◌then◌else◌}
+use Rattle.std.specs.Prelude.{ℕ, ◌/◌, ◌%◌, Bool, true, false, not, ◌&&◌, ◌||◌, ◌==◌, List, [], ◌∷◌}
+use Rattle.std.specs.Prelude.{◌++◌, codes, flat_map, if◌then◌else◌}
 use Rattle.std.specs.Char.{encode_utf8}
 use Rattle.std.specs.Char.Utf16.{is_high_surrogate, is_low_surrogate, surrogate_pair_char}
 use Rattle.std.specs.Int.{is_in_range}
 use Rattle.ucd_category.specs.declared.GeneralCategory.{GeneralCategory}
-use Rattle.ucd_category.specs.declared.GeneralCategory.TheVariants.{SpaceSeparator, LineSeparator, ParagraphSeparator, Control, Format}
+use Rattle.ucd_category.specs.declared.GeneralCategory.TheVariants.{SpaceSeparator, LineSeparator}
+use Rattle.ucd_category.specs.declared.GeneralCategory.TheVariants.{ParagraphSeparator, Control}
+use Rattle.ucd_category.specs.declared.GeneralCategory.TheVariants.{Format}
 use Rattle.ucd_category.specs.GeneralCategory.{general_category}
 use Rattle.ucd_derived.specs.Binary.{is_default_ignorable_code_point}
 use Rattle.plist_value.specs.Digits.{two_digits}
@@ -44,7 +47,8 @@ printed_unit unit =
 -- two units that are a surrogate pair of a visible character
 abbrev pub is_seen_pair : ℕ → ℕ → Bool
 is_seen_pair unit next =
-    is_high_surrogate unit && (is_low_surrogate next && not (is_unseen (surrogate_pair_char unit next)))
+    is_high_surrogate unit
+    && (is_low_surrogate next && not (is_unseen (surrogate_pair_char unit next)))
 
 -- each such pair as its character in UTF-8, and each other unit by itself
 abbrev pub printed_units : List ℕ → List ℕ
