@@ -2,12 +2,14 @@
 //! standard output.
 #![tactic(auto)]
 
-ghost use Rattle.std.specs.Prelude.{◌≡◌, ◌⊎◌, IfOk, None, map, string_bytes};
+ghost use Rattle.std.specs.Prelude.{◌≡◌, ◌≢◌, ◌⊎◌, ℕ, IfErr, IfOk, None, map, string_bytes};
+ghost use Rattle.std.specs.IoError.{error_kind};
+ghost use Rattle.plist_convert.specs.Ending.{Prints, no_memory};
 ghost use Rattle.plist_convert.specs.Program.{IsHostRun};
 
-use plist_convert::{Status, run_to_end};
+use plist_convert::{Status, Stream, put_all, run_to_end};
 use std::alloc::{AllocError, Global};
-use std::io::ErrorKind;
+use std::io::{ErrorKind, Read, Write};
 use std::process::ExitCode;
 use std::{env, io};
 
@@ -22,37 +24,40 @@ fn arguments(rt: &HostRuntime) -> io::Result<Vec<String>> {
 /// Runs the program on these arguments and returns its exit status. Prints a line if they could not
 /// be read, or if out of memory for a copy of their references.
 fn status(rt: &HostRuntime, arguments: io::Result<Vec<String>>) -> u8
-    ensures { IfOk arguments (λ owned.
+    ensures run { IfOk arguments (λ owned.
         IsHostRun (map (λ word. string_bytes word) owned.items) None None None result
         ⊎ ((result ≡ 5) ⊎ (result ≡ 4))) }
+    ensures words { IfErr arguments (λ error.
+        error_kind error ≢ ErrorKind.OutOfMemory → (result ≡ 3) ⊎ (result ≡ 4)) }
 {
+    let mut output = rt.stdout();
     let ran = match arguments {
-        Ok(arguments) => answer(rt, arguments.as_slice()),
+        Ok(arguments) => answer(rt, arguments.as_slice(), &mut rt.stdin(), &mut output),
         Err(error) if error.kind() != ErrorKind::OutOfMemory => {
-            return refuse(rt, "error: a word is not UTF-8", Status::BadWords.code());
+            return refuse(
+                &mut output,
+                "error: a word is not UTF-8\n",
+                Status::BadWords.code(),
+            );
         }
         Err(_) => Err(AllocError),
     };
-    match ran {
-        Ok(status) => status,
-        Err(_) => refuse(rt, "refused 60 OutOfMemory", Status::NoMemory.code()),
-    }
+    ended(&mut output, ran)
 }
 
 /// Runs the program on these arguments and returns its exit status.
-fn answer(rt: &HostRuntime, arguments: &[String]) -> Result<u8, AllocError>
-    ensures { IfOk result (λ status. IsHostRun
-        (map (λ word. string_bytes word) arguments.now) None None None status) }
+fn answer<I: Read, O: Write>(
+    rt: &HostRuntime,
+    arguments: &[String],
+    input: &mut I,
+    output: &mut O,
+) -> Result<u8, AllocError>
+    ensures { IfOk result (λ status. IsHostRun (map (λ word. string_bytes word) arguments.now)
+        (I.remaining input.old) (O.contents output.old) (O.contents output.new) status) }
 {
     let alloc = rt.alloc();
     let words = borrowed(alloc, arguments)?;
-    Ok(run_to_end(
-        rt,
-        alloc,
-        words.as_slice(),
-        &mut rt.stdin(),
-        &mut rt.stdout(),
-    ))
+    Ok(run_to_end(rt, alloc, words.as_slice(), input, output))
 }
 
 fn borrowed<'a>(alloc: Global, texts: &'a [String]) -> Result<Vec<&'a str>, AllocError>
@@ -62,11 +67,24 @@ fn borrowed<'a>(alloc: Global, texts: &'a [String]) -> Result<Vec<&'a str>, Allo
     texts.iter().map(|text| text.as_str()).collect(alloc)
 }
 
-/// Prints the line and returns the exit status, or 4 if the line cannot be printed.
-fn refuse(rt: &HostRuntime, line: &str, status: u8) -> u8
-    ensures { (result ≡ status) ⊎ (result ≡ 4) }
+/// Returns the exit status of a run, or prints a line if it ran out of memory before it began.
+fn ended<O: Write>(output: &mut O, ran: Result<u8, AllocError>) -> u8
+    ensures ran { IfOk ran (λ status. result ≡ status) }
+    ensures memory { IfErr ran (λ _. (failures : ℕ) × Prints (O.contents output.old)
+        (O.contents output.new) 0 failures no_memory result) }
 {
-    match rt.println(line) {
+    match ran {
+        Ok(status) => status,
+        Err(_) => refuse(output, "refused 60 OutOfMemory\n", Status::NoMemory.code()),
+    }
+}
+
+/// Prints the line and returns the exit status, or 4 if the line cannot be printed.
+fn refuse<O: Write>(output: &mut O, line: &str, status: u8) -> u8
+    ensures { (failures : ℕ) × Prints (O.contents output.old) (O.contents output.new) 0 failures
+        (record { text = line.now; status = status }) result }
+{
+    match put_all(line.as_bytes(), &mut Stream::new(output)) {
         Ok(()) => status,
         Err(_) => Status::DeviceFailed.code(),
     }
