@@ -173,6 +173,8 @@ class Tree:
                 return Target("member", self.declare(owner), name)
             if name in PRIMITIVES:
                 return Target("bound" if name == "Self" else "library", "Rust", name)
+            if is_of_library(file, name):
+                return Target("library", "Rust", name)
             known = self.item_named(file, name, (*TYPES, "const", "static"))
             return Target("definition", self.declare(known), name) if known else None
 
@@ -240,6 +242,14 @@ class Tree:
         for _, _, start, end in rust.clauses(into.text):
             known = scope | rust.parameters(into.text) if "fn " in into.text else scope
             terms.read([token._replace(start=token.start + start) for token in tokens_of(into.text[start:end])], known)
+
+
+def is_of_library(file: rust.RustFile, name: str) -> bool:
+    """Returns whether a file imports a name, or what it begins with, from std."""
+    head = name.partition(".")[0]
+    imported = (names.split(",") if names else path.split("::")[-1:] for path, names
+                in IMPORT.findall("\n".join(file.lines)) if path.split("::")[0] == "std")
+    return any(head == given.strip() for names in imported for given in names)
 
 
 def ghost_members(item: rust.Item) -> str:
