@@ -102,6 +102,10 @@ a-number-explained : AsksFor (codes "plistconv" ∷ (codes "explain" ∷ (codes 
 unfolding clap_on_literals
 a-number-explained = asks _ _ (λ p q r. refl) (λ p q r. refl)
 
+a-refusal-explained : AsksFor (codes "plistconv" ∷ (codes "explain" ∷ (codes "14" ∷ (codes "DuplicateKey" ∷ [])))) (Explains (Some (codes "14")))
+unfolding clap_on_literals
+a-refusal-explained = asks _ _ (λ p q r. refl) (λ p q r. refl)
+
 all-explained : AsksFor (codes "plistconv" ∷ (codes "explain" ∷ [])) (Explains None)
 unfolding clap_on_literals
 all-explained = asks _ _ (λ p q r. refl) (λ p q r. refl)

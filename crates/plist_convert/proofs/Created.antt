@@ -39,6 +39,10 @@ output_some Binary1 octets output of none = absurd (let is : Some (canon of.valu
 output_some OpenStep octets output of none =
     ends_some (written of.value) 10 (chosen (is_writable of.value) _ _ of.written ∙ none)
 
+output_long : (xs : List ℕ) → xs ≢ [] → 0 < length xs
+output_long [] some = absurd (some refl)
+output_long (x ∷ xs) some = omega arith
+
 -- a file that may only have been emptied is what it was or empty
 abbrev IsWasOrEmpty : Option (List ℕ) → Option (List ℕ) → Type 0
 IsWasOrEmpty old new = (new ≡ old) ⊎ (new ≡ Some [])
@@ -211,7 +215,7 @@ unclosed form octets (Some old) (Some new) before after failures path contents r
     others = may.1;
     count = tt;
     whole = tt;
-    within = omega arith;
+    within = output_long goes.output (output_some form octets goes.output goes.of);
     front = (front_none old new path goes.output 0 may refl refl, unfailed);
   };
 })

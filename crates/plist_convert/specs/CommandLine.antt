@@ -1,5 +1,5 @@
 -- The command line of the program.
-use Rattle.std.specs.Prelude.{◌≡◌, List, [], ◌∷◌, Some, true, codes, map}
+use Rattle.std.specs.Prelude.{◌≡◌, List, [], ◌∷◌, Some, true, false, codes, map}
 use Rattle.std.specs.Borrow.{Bor}
 use Rattle.clap.specs.Lexer.{usize_max}
 use Rattle.clap.specs.Words.{App, Rule, Text, new_app, new_rule, with_rule, with_subcommand}
@@ -35,9 +35,13 @@ convert forms =
     (record (file_word (codes "FORM")) { parser = Some (Names forms) })) (file_word (codes "IN")))
     (file_word (codes "OUT"))
 
--- `explain WHAT`, or `explain` alone
+-- an optional argument, with one value or more
+abbrev pub any_words : Text → Rule
+any_words id = record (file_words id) { required = false }
+
+-- `explain WHAT..`, or `explain` alone
 abbrev pub explain : App
-explain = with_rule (new_app (codes "explain")) (new_rule (codes "WHAT"))
+explain = with_rule (new_app (codes "explain")) (any_words (codes "WHAT"))
 
 -- a command is required
 abbrev pub program_top : App

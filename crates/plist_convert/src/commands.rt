@@ -1,7 +1,8 @@
 //! The command line, as defined for `clap`.
 ghost use Rattle.std.specs.Prelude.{◌≡◌, IfOk, IsOkAnd, codes, false};
-ghost use Rattle.clap.specs.Words.{AddsSubcommand, app_of, new_app, new_rule, rule_of};
-ghost use Rattle.plist_convert.specs.CommandLine.{IsConvert, IsProgram, file_word, file_words};
+ghost use Rattle.clap.specs.Words.{AddsSubcommand, app_of, new_app, rule_of};
+ghost use Rattle.plist_convert.specs.CommandLine.{IsConvert, IsProgram, any_words, file_word};
+ghost use Rattle.plist_convert.specs.CommandLine.{file_words};
 ghost use Rattle.plist_convert.specs.CommandLine.{explain as explain_line, one_file, program_top};
 ghost use Rattle.plist_convert.specs.CommandLine.{same as same_line, some_files};
 
@@ -123,10 +124,10 @@ fn several<'a>(alloc: Global, id: &'a str, text: &'a str) -> Arg<'a>
     Arg::new(alloc, id).required(true).num_args(1..).help(text)
 }
 
-/// Returns an optional argument.
+/// Returns an optional argument with any number of values.
 fn optional<'a>(alloc: Global, id: &'a str, text: &'a str) -> Arg<'a>
-    ensures rule { rule_of result ≡ new_rule id.entry.now }
+    ensures rule { rule_of result ≡ any_words id.entry.now }
     ensures local { result.global ≡ false }
 {
-    Arg::new(alloc, id).help(text)
+    Arg::new(alloc, id).num_args(1..).help(text)
 }

@@ -1,5 +1,5 @@
 //! Writing the OpenStep text of an input.
-ghost use Rattle.std.specs.Prelude.{◌≡◌, true, IfErr, IfOk, OnOk};
+ghost use Rattle.std.specs.Prelude.{◌≡◌, true, false, IfErr, IfOk, OnOk};
 ghost use Rattle.plist_value.specs.Plist.{Plist};
 ghost use Rattle.plist_object.specs.Spelled.{IsBinary};
 ghost use Rattle.plist_object.specs.Views.{octets_of};
@@ -56,7 +56,16 @@ fn judge_writable(alloc: Global, octets: &[u8]) -> Result<BinFile<'_>, Fault>
     ensures refused { IfErr result (IsOutputFault Form.OpenStep octets.entry.now) }
 {
     let file = judge_binary(alloc, octets)?;
-    if has_text(alloc, &file)? {
+    let found = has_text(alloc, &file)?;
+    writable(file, found)
+}
+
+// Returns the file if its value has a text. Allocates nothing.
+fn writable(file: BinFile<'_>, has_text: bool) -> Result<BinFile<'_>, Fault>
+    ensures file { IfOk result (λ found. (found ≡ file.entry) × (has_text ≡ true)) }
+    ensures refused { IfErr result (λ fault. (fault ≡ Fault.NotInOpenStep) × (has_text ≡ false)) }
+{
+    if has_text {
         Ok(file)
     } else {
         Err(Fault::NotInOpenStep)
