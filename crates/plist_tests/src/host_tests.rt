@@ -177,7 +177,7 @@ const OTHER_WORDS: [&str; 24] = [
     "explain 014|3 error: '014' is no refusal and no rule",
     "explain +14|3 error: '+14' is no refusal and no rule",
     "explain 22|3 error: '22' is no refusal and no rule: plistconv explain lists them\n",
-    "explain 14 C5|3 error: ",
+    "explain 14 DuplicateKey at object 0|0 14 DuplicateKey: ",
     "turn row2.txt|3 error: ",
     "same row2.txt|3 error: ",
     "lint|3 error: ",
