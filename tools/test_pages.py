@@ -39,9 +39,9 @@ class Pages(Case):
             text = " ".join(page(name).split())
             for word in ("CR LF", "base64", "duplicate key", "64 bits", "second value", "fraction", "8 bytes", "4 bytes"):
                 self.assertIn(word, text, name)
-            first, second, third = (text.index(word) for word in
-                                    ("plistconv-canonicalise --from-xml", "plistutil -i", "plutil -convert"))
-            self.assertTrue(first < second < third, name)
+            places = [text.index(word) for word in
+                      ("plistconv-canonicalise --from-xml", "plistutil -i", "plutil -convert")]
+            self.assertEqual(places, sorted(places), name)
             self.assertRegex(text, r"plutil -convert binary1 -o OUT IN *[(#] ?macOS")
 
 
