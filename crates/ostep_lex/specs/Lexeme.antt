@@ -6,6 +6,8 @@ use Rattle.ostep_lex.specs.declared.token.TokenKind.TheVariants.{BraceOpen, Brac
 use Rattle.ostep_lex.specs.declared.token.TokenKind.TheVariants.{ParenClose, Comma, Semicolon}
 use Rattle.ostep_lex.specs.declared.token.TokenKind.TheVariants.{Equals, Text, Octets as OctetsKind}
 use Rattle.ostep_lex.specs.declared.token.Token.{Token}
+use Rattle.ostep_lex.specs.declared.token.PlainToken.{PlainToken}
+use Rattle.plist_value.specs.Texts.{units_of}
 use Rattle.ostep_lex.specs.Character.{less_than, is_run, is_quote}
 use Rattle.ostep_lex.specs.Gap.{begins_comment}
 use Rattle.ostep_lex.specs.Quoted.{Run, Quoted}
@@ -66,3 +68,7 @@ lexeme_of (OctetsKind bytes) = octets bytes.items
 
 abbrev pub placed : Token → Placed
 placed token = record { lexeme = lexeme_of token.kind; start = token.start; end = token.end }
+
+abbrev pub placed_plain : PlainToken → Placed
+placed_plain token =
+    record { lexeme = text (units_of token.text); start = token.start; end = token.end }

@@ -26,4 +26,4 @@ pub use fault::LexFault;
 pub use lexer::{next_mark, next_token, tokens};
 pub use opening::open;
 pub use plain::next_plain;
-pub use token::{Token, TokenKind};
+pub use token::{PlainToken, Token, TokenKind};

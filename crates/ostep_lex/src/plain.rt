@@ -1,15 +1,16 @@
 //! Strings of ASCII characters without escapes, borrowed from the input.
-ghost use Rattle.std.specs.Prelude.{◌<◌, IfSome, length};
+ghost use Rattle.std.specs.Prelude.{◌<◌, ◌∷◌, ◌++◌, [], ℕ, List, IfSome, length};
 ghost use Rattle.plist_value.specs.Plist.{AreUnits};
 ghost use Rattle.plist_value.specs.Texts.{units_of};
-ghost use Rattle.ostep_lex.specs.Lexeme.{text as string};
-ghost use Rattle.ostep_lex.specs.Cursor.{ahead, AddsToken};
+ghost use Rattle.ostep_lex.specs.Lexeme.{Placed, placed_plain, text as string};
+ghost use Rattle.ostep_lex.specs.Cursor.{ahead, IsAfter};
 ghost use Rattle.ostep_lex.specs.Cursor.{PassesQuoted, PassesRun, PassesToken};
 
 use crate::character::{is_quote, is_run};
 use crate::cursor::Cursor;
 use crate::gap::gap;
 use crate::stretch::Class;
+use crate::token::PlainToken;
 use plist_value::TextRef;
 
 /// Returns the bytes of the unquoted string at the cursor, and the cursor after it.
@@ -54,14 +55,16 @@ fn plain_here(cursor: Cursor<'_>) -> Option<(&[u8], Cursor<'_>)>
 /// escapes, in UTF-8. The string is not copied, so this is faster than `next_token`. `None` is only
 /// a hint; `next_token` then reads the token, which may be a string that begins with `/`.
 #[inline(always)]
-pub fn next_plain(cursor: Cursor<'_>) -> Option<(TextRef<'_>, Cursor<'_>)>
+pub fn next_plain(cursor: Cursor<'_>) -> Option<(PlainToken<'_>, Cursor<'_>)>
     // If the cursor is after tokens of an input, this is one more.
-    ensures token { IfSome result (λ found.
-        AddsToken (string (units_of found.0)) cursor.entry found.1) }
-    ensures valid { IfSome result (λ found. AreUnits (units_of found.0)) }
+    ensures some { (octets : List ℕ) (tokens : List Placed)
+        → IsAfter octets tokens cursor.entry
+        → IfSome result (λ token.
+        IsAfter octets (tokens ++ placed_plain token.0 ∷ []) token.1) }
+    ensures valid { IfSome result (λ token. AreUnits (units_of token.0.text)) }
     // It has at least one character.
-    ensures shorter { IfSome result (λ found.
-        length (ahead found.1) < length (ahead cursor.entry)) }
+    ensures shorter { IfSome result (λ token.
+        length (ahead token.1) < length (ahead cursor.entry)) }
 {
     if !cursor.is_utf8() {
         return None;
@@ -71,5 +74,10 @@ pub fn next_plain(cursor: Cursor<'_>) -> Option<(TextRef<'_>, Cursor<'_>)>
     };
     let (octets, end) = plain_here(start)?;
     let text = TextRef::of_ascii(octets)?;
-    Some((text, end))
+    let token = PlainToken {
+        text,
+        start: start.place(),
+        end: end.place(),
+    };
+    Some((token, end))
 }

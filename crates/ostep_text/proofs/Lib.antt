@@ -10,9 +10,8 @@ pub mod PlainText
 pub mod MachineLemmas
 pub mod PhraseSteps
 pub mod SortingSteps
-pub mod PlaceSteps
+pub mod DraftSteps
 pub mod KeySteps
-pub mod MeanSteps
 pub mod Standing
 pub mod DueSteps
 pub mod TakeSteps

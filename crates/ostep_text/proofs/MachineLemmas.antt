@@ -4,14 +4,15 @@ use Rattle.std.proofs.Common.{◌≡◌, ℕ, true, false, List, [], ◌∷◌, 
 use Rattle.std.specs.Prelude.{Vec}
 use Rattle.std.specs.declared.alloc.Global.{Global}
 use Rattle.plist_value.specs.Plist.{Plist, Items, Pairs}
-use Rattle.ostep_lex.specs.Lexeme.{Lexeme, semicolon, paren_close, brace_close, lexeme_of}
+use Rattle.ostep_lex.specs.Lexeme.{Lexeme, semicolon, paren_close, brace_close, lexeme_of, text as string}
 use Rattle.ostep_text.specs.Phrase.{Phrase, a_string, some_data, a_list, a_table, ItemsPhrase, items_end, last_item, an_item, RowPhrase, with_value, key_alone, RowsPhrase, rows_end, a_row, TopPhrase, a_value, bare_table}
 use Rattle.ostep_text.specs.Stands.{IsPhrase}
 use Rattle.ostep_text.specs.Machine
 use Rattle.ostep_text.specs.Machine.{Around, State, IsTable, braces, without, runs, accepts, step, begun, item_or_end, ended, row_or_end, after_key}
 use Rattle.ostep_lex.specs.declared.token.TokenKind.{TokenKind}
-use Rattle.ostep_lex.specs.declared.token.TokenKind.TheVariants.{BraceOpen, BraceClose, ParenOpen, ParenClose, Comma, Semicolon, Equals, Text, Octets}
+use Rattle.ostep_lex.specs.declared.token.TokenKind.TheVariants.{BraceOpen, ParenOpen, ParenClose, Comma, Semicolon, Equals, Text, Octets}
 use Rattle.ostep_text.specs.Begun.{begins_value}
+use Rattle.ostep_text.specs.First.{ends_list, ends_table, is_string}
 use Rattle.ostep_text.specs.Reading.{Front}
 
 after-value : {t : Around} → IsTable t → (rest : List Lexeme) → runs (Machine.after t) (semicolon ∷ rest) ≡ runs (Machine.rows t) rest
@@ -81,9 +82,13 @@ pub leads-nowhere : (whole : Front) (s : State) (l : Lexeme) → ((rest : List L
     → (rest : List Lexeme) → runs Machine.front (whole (l ∷ rest)) ≡ Machine.dead
 leads-nowhere whole s l d e rest = d (l ∷ rest) ∙ (ap (λ x. runs x rest) e ∙ stays-dead rest)
 
-pub item-begun : (a : Around) (kind : TokenKind) → ¬ (kind ≡ ParenClose) → item_or_end a (lexeme_of kind) ≡ begun (Machine.in_list a) (lexeme_of kind)
-item-begun a ParenClose n = absurd (n refl)
-item-begun a _ n = refl
+pub item-begun : (a : Around) (l : Lexeme) → ends_list l ≡ false → item_or_end a l ≡ begun (Machine.in_list a) l
+item-begun a paren_close e = cc e
+item-begun a _ e = refl
+
+pub list-end : (l : Lexeme) → ends_list l ≡ true → l ≡ paren_close
+list-end paren_close e = refl
+list-end _ e = cc e
 
 pub item-ended : (a : Around) (kind : TokenKind) → ¬ (kind ≡ ParenClose) → ¬ (kind ≡ Comma) → ended (Machine.in_list a) (lexeme_of kind) ≡ Machine.dead
 item-ended a ParenClose n m = absurd (n refl)
@@ -100,15 +105,18 @@ key-ended t Semicolon n m = absurd (m refl)
 key-ended t Equals n m = absurd (n refl)
 key-ended t _ n m = refl
 
-pub table-ended : (a : Around) (kind : TokenKind) → ¬ (kind ≡ BraceClose) → ((units : List ℕ) → ¬ (kind ≡ Text units))
-    → row_or_end (Machine.in_braces a) (lexeme_of kind) ≡ Machine.dead
-table-ended a BraceClose n m = absurd (n refl)
-table-ended a (Text units) n m = absurd (m units refl)
-table-ended a _ n m = refl
+pub table-ended : (a : Around) (l : Lexeme) → ends_table l ≡ false → is_string l ≡ false → row_or_end (Machine.in_braces a) l ≡ Machine.dead
+table-ended a brace_close e s = cc e
+table-ended a (string units) e s = cc s
+table-ended a _ e s = refl
 
-pub bare-ended : (kind : TokenKind) → ((units : List ℕ) → ¬ (kind ≡ Text units)) → row_or_end Machine.bare (lexeme_of kind) ≡ Machine.dead
-bare-ended (Text units) m = absurd (m units refl)
-bare-ended _ m = refl
+pub table-end : (l : Lexeme) → ends_table l ≡ true → l ≡ brace_close
+table-end brace_close e = refl
+table-end _ e = cc e
+
+pub bare-ended : (l : Lexeme) → is_string l ≡ false → row_or_end Machine.bare l ≡ Machine.dead
+bare-ended (string units) s = cc s
+bare-ended _ s = refl
 
 pub value-ended : (a : Around) (kind : TokenKind) → ((units : List ℕ) → ¬ (kind ≡ Text units)) → ((xs : Vec ℕ Global) → ¬ (kind ≡ Octets xs)) → ¬ (kind ≡ ParenOpen) → ¬ (kind ≡ BraceOpen)
     → begun a (lexeme_of kind) ≡ Machine.dead

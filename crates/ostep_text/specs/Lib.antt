@@ -7,9 +7,11 @@ pub mod Stands
 pub mod Written
 pub mod Laws
 pub mod Machine
-pub mod Read
 pub mod Reading
-pub mod Means
+pub mod Drafted
+pub mod Key
+pub mod KeyOrder
 pub mod Keys
+pub mod First
 pub mod Due
 pub mod WriteFault

@@ -1,5 +1,5 @@
 -- What the reader has read of an input, and what is left of the limits.
-use Rattle.std.specs.Prelude.{◌≡◌, ℕ, ◌+◌, ◌*◌, ◌<◌, ◌≤◌, List, length}
+use Rattle.std.specs.Prelude.{◌≡◌, ℕ, ◌+◌, ◌*◌, ◌<◌, ◌≤◌, List, ◌∷◌, ◌++◌, length}
 use Rattle.plist_value.specs.declared.budget.Budget.{Budget}
 use Rattle.plist_value.specs.declared.TheConstants.{MAX_NODES, MAX_DEPTH, MAX_PAYLOAD}
 use Rattle.plist_value.specs.Budget.{Spends}
@@ -7,7 +7,7 @@ use Rattle.plist_value.specs.Plist.{Plist, Items, Pairs, IsPlist, AreItems, AreP
 use Rattle.plist_value.specs.Limits.{nodes, depth, payload, nodes_of_items, depth_of_items}
 use Rattle.plist_value.specs.Limits.{payload_of_items, nodes_of_pairs, depth_of_pairs}
 use Rattle.plist_value.specs.Limits.{payload_of_pairs}
-use Rattle.ostep_lex.specs.Lexeme.{Lexeme, Placed}
+use Rattle.ostep_lex.specs.Lexeme.{Lexeme, semicolon, Placed}
 use Rattle.ostep_lex.specs.Lexing.{HasTokens}
 use Rattle.ostep_lex.specs.Cursor.{IsAfter}
 use Rattle.ostep_text.specs.declared.fault.TextFault.{TextFault}
@@ -15,10 +15,17 @@ use Rattle.ostep_text.specs.declared.fault.TextFault.TheVariants.{TooDeep, TooMa
 use Rattle.ostep_text.specs.declared.fault.TextFault.TheVariants.{TooMuchPayload}
 use Rattle.ostep_text.specs.Sorting.{AreReordered}
 use Rattle.ostep_text.specs.Begun.{Before}
-use Rattle.ostep_text.specs.Read
-pub use Rattle.ostep_text.specs.Read.{Front, AreBefore}
+use Rattle.ostep_text.specs.Phrase.{Phrase, ItemsPhrase, RowPhrase, RowsPhrase}
+use Rattle.ostep_text.specs.Text.{lexemes}
 use Rattle.ostep_text.specs.Stands.{Stands}
 use Rattle.ostep_text.specs.declared.tokens.Tokens.{Tokens}
+
+-- the tokens read, as a function from the remaining tokens to all of them
+abbrev pub Front : Type 0
+Front = List Lexeme → List Lexeme
+
+abbrev pub AreBefore : List Placed → Front → Type 0
+AreBefore tokens whole = (rest : List Lexeme) → lexemes tokens ++ rest ≡ whole rest
 
 -- these tokens of the input were read
 pub record HasRead (octets : List ℕ) (tokens : List Placed) (source : Tokens) : Type 0 where
@@ -41,26 +48,55 @@ pub record IsLeft (left : Budget) (levels : ℕ) (b : Before) : Type 0 where
   pub payload_left : left.payload + b.payload ≡ MAX_PAYLOAD
   pub levels_left : levels + b.open_containers ≡ MAX_DEPTH
 
--- what was read of the input up to the state `source`
-abbrev pub ReadsValue : List ℕ → List Placed → Lexeme → Plist → Tokens → Type 0
-ReadsValue octets tokens first v source =
-    Read.ReadsValue (λ all. HasRead octets all source) tokens first v
+-- more tokens were read up to the state `source`, namely those that `inside` puts before the
+-- remaining ones
+pub record ReadsOn (octets : List ℕ) (tokens : List Placed) (inside : Front)
+    (source : Tokens) : Type 0 where
+  pub all : List Placed
+  pub has : HasRead octets all source
+  pub follow : (whole : Front) → AreBefore tokens whole
+      → AreBefore all (λ rest. whole (inside rest))
 
-abbrev pub ReadsEnded : List ℕ → List Placed → Plist → Tokens → Type 0
-ReadsEnded octets tokens v source = Read.ReadsEnded (λ all. HasRead octets all source) tokens v
+-- the tokens from the first on were a phrase of the value, in the second record with the `;` after
+-- it
+pub record ReadsValue (octets : List ℕ) (tokens : List Placed) (first : Lexeme) (v : Plist)
+    (source : Tokens) : Type 0 where
+  pub inside : Front
+  pub spells : (rest : List Lexeme) → Phrase (first ∷ inside rest) v rest
+  pub reads : ReadsOn octets tokens (λ rest. first ∷ inside rest) source
 
-abbrev pub ReadsItems : List ℕ → List Placed → List Lexeme → Items → Tokens → Type 0
-ReadsItems octets tokens end vs source =
-    Read.ReadsItems (λ all. HasRead octets all source) tokens end vs
+pub record ReadsEnded (octets : List ℕ) (tokens : List Placed) (v : Plist)
+    (source : Tokens) : Type 0 where
+  pub inside : Front
+  pub spells : (rest : List Lexeme) → Phrase (inside rest) v (semicolon ∷ rest)
+  pub reads : ReadsOn octets tokens inside source
 
-abbrev pub ReadsRow : List ℕ → List Placed → List ℕ → Plist → Tokens → Type 0
-ReadsRow octets tokens key v source = Read.ReadsRow (λ all. HasRead octets all source) tokens key v
+-- the tokens were items: the first ones, or all and the parenthesis after them
+pub record ReadsItems (octets : List ℕ) (tokens : List Placed) (end : List Lexeme) (vs : Items)
+    (source : Tokens) : Type 0 where
+  pub inside : Front
+  pub spells : (rest : List Lexeme) → ItemsPhrase (inside rest) vs (end ++ rest)
+  pub reads : ReadsOn octets tokens inside source
 
--- like `Read.ReadsRows`, with the rows sorted by their keys
-pub record ReadsRows (octets : List ℕ) (tokens : List Placed) (end : List Lexeme) (pairs : Pairs)
+-- the tokens were a row
+pub record ReadsRow (octets : List ℕ) (tokens : List Placed) (key : List ℕ) (v : Plist)
+    (source : Tokens) : Type 0 where
+  pub inside : Front
+  pub spells : (rest : List Lexeme) → RowPhrase (inside rest) key v rest
+  pub reads : ReadsOn octets tokens inside source
+
+-- the tokens were rows in this order: the first ones, or all and the brace after them
+pub record ReadsRows (octets : List ℕ) (tokens : List Placed) (end : List Lexeme) (rows : Pairs)
+    (source : Tokens) : Type 0 where
+  pub inside : Front
+  pub spells : (rest : List Lexeme) → RowsPhrase (inside rest) rows (end ++ rest)
+  pub reads : ReadsOn octets tokens inside source
+
+-- the same rows, sorted by their keys, are the pairs
+pub record ReadsPairs (octets : List ℕ) (tokens : List Placed) (end : List Lexeme) (pairs : Pairs)
     (source : Tokens) : Type 0 where
   pub rows : Pairs
-  pub read : Read.ReadsRows (λ all. HasRead octets all source) tokens end rows
+  pub read : ReadsRows octets tokens end rows source
   pub same : AreReordered rows pairs
 
 -- what a value, items, pairs or a row take, and that they are valid and at most `levels` deep

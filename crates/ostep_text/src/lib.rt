@@ -8,20 +8,24 @@
 //! the text that is written for a value. `laws` proves what holds of them alone.
 #![tactic(auto)]
 
-mod built;
+mod building;
+mod entries;
 pub mod fault;
+mod first;
+mod key;
 mod keys;
 pub mod laws;
 mod payloads;
 pub mod read;
 mod reader;
 mod tokens;
+mod whole;
 pub mod write_fault;
 mod write_scalars;
 mod writing;
 
 pub use fault::TextFault;
-pub use read::{judge_text, read_text};
+pub use read::{draft_text, read_text};
 pub use write_fault::TextWriteFault;
 pub use write_scalars::{is_plain, put_quoted_unit};
 pub use writing::write_text;

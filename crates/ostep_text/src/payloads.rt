@@ -1,16 +1,15 @@
 //! The payload of strings and data.
 ghost use Rattle.std.specs.Prelude.{◌≡◌, ◌*◌, length};
-ghost use Rattle.plist_value.specs.Plist.{AreOctets, AreUnits};
+ghost use Rattle.plist_value.specs.Plist.{AreOctets};
+ghost use Rattle.plist_value.specs.Texts.{units_of};
 
-use plist_value::Utf16;
+use plist_value::TextRef;
 
 // Returns the payload of a string: two bytes for each unit.
-pub(crate) fn text_payload(text: &Utf16) -> u128
-    ensures payload { result ≡ 2 * length text.now }
-    ensures valid { AreUnits text.now }
+pub(crate) fn text_payload(text: TextRef<'_>) -> u128
+    ensures { result ≡ 2 * length (units_of text.entry) }
 {
-    let units = text.units();
-    2 * units.len() as u128
+    2 * text.len() as u128
 }
 
 // Returns the payload of data: its length.

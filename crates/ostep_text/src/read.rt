@@ -1,21 +1,23 @@
-//! Reading and validating whole texts.
-ghost use Rattle.std.specs.Prelude.{◌≢◌, OnOk, IfOk, IfErr};
+//! Reading whole texts.
+ghost use Rattle.std.specs.Prelude.{◌≢◌, IfOk, IfErr};
 ghost use Rattle.plist_value.specs.Plist.{Plist};
 ghost use Rattle.plist_value.specs.View.{view};
+ghost use Rattle.plist_object.specs.Spelled.{IsBinary};
 ghost use Rattle.ostep_text.specs.Text.{IsText, IsNoText};
-ghost use Rattle.ostep_text.specs.Means.{IsBuiltOf};
 ghost use Rattle.ostep_text.specs.Stands.{Stands};
 
 use crate::TextFault;
-use crate::built::Built;
 use crate::reader::Reader;
 use crate::tokens::Tokens;
-use ostep_lex::{TokenKind, open};
+use ostep_lex::open;
+use plist_binary::BinaryFault;
+use plist_draft::Draft;
 use plist_value::{Budget, Value};
 use std::alloc::Global;
 
-/// Reads a text: UTF-8, or UTF-16 of either byte order after its BOM. At the top level the braces
-/// of a dictionary may be missing, and a text without tokens is the empty dictionary.
+/// Reads a text into a binary file of its value. A text is UTF-8, or UTF-16 of either byte order
+/// after its BOM. At the top level the braces of a dictionary may be missing, and a text without
+/// tokens is the empty dictionary.
 ///
 /// # Errors
 ///
@@ -23,40 +25,13 @@ use std::alloc::Global;
 /// leftmost of these: a token that cannot occur there, or an early end (`Expected`, `Junk`); a
 /// duplicate key (`DuplicateKey`); a node beyond the limits. For one node `TooManyNodes` comes
 /// before `TooDeep`, and that before `TooMuchPayload`. Any step may fail with `OutOfMemory`.
-pub fn read_text(alloc: Global, octets: &[u8]) -> Result<Value, TextFault>
-    // The bytes are a text of the value, which is within the limits.
-    ensures read { IfOk result (λ value. IsText octets.now (view value)) }
+pub fn draft_text(alloc: Global, octets: &[u8]) -> Result<Vec<u8>, TextFault>
+    // The bytes are a text of the file's value, which is within the limits.
+    ensures drafted { IfOk result (λ file.
+        (v : Plist) × (IsText octets.now v × IsBinary file.items v)) }
     // The fault is true at its place.
     ensures stands { IfErr result (Stands octets.now) }
     // The bytes are not a text of any value.
-    ensures refused { IfErr result (λ fault.
-        fault ≢ TextFault.OutOfMemory → IsNoText octets.now) }
-{
-    read_into::<Value>(alloc, octets)
-}
-
-/// Validates a text, without building its value: beside the input it keeps only the keys of the
-/// dictionaries that are not yet complete.
-///
-/// # Errors
-///
-/// Fails like [`read_text`].
-pub fn judge_text(alloc: Global, octets: &[u8]) -> Result<(), TextFault>
-    // The bytes are a text of a value within the limits.
-    ensures ok { OnOk result ((v : Plist) × IsText octets.now v) }
-    // The fault is true at its place.
-    ensures stands { IfErr result (Stands octets.now) }
-    // The bytes are not a text of any value.
-    ensures refused { IfErr result (λ fault.
-        fault ≢ TextFault.OutOfMemory → IsNoText octets.now) }
-{
-    read_into::<()>(alloc, octets)
-}
-
-// Reads a text and returns what is built for its value.
-fn read_into<N: Built>(alloc: Global, octets: &[u8]) -> Result<N, TextFault>
-    ensures read { IfOk result (IsBuiltOf N.means octets.now) }
-    ensures stands { IfErr result (Stands octets.now) }
     ensures refused { IfErr result (λ fault.
         fault ≢ TextFault.OutOfMemory → IsNoText octets.now) }
 {
@@ -66,17 +41,38 @@ fn read_into<N: Built>(alloc: Global, octets: &[u8]) -> Result<N, TextFault>
         cursor: open(octets)?,
         end: octets.len(),
     };
+    let draft = Draft::new(alloc)?;
     let mut reader = Reader {
         alloc,
         tokens,
         left: Budget::whole(),
+        draft,
     };
-    let Some(first) = reader.tokens.next()? else {
-        return Ok(N::of_rows(N::no_rows(alloc)));
-    };
-    let start = first.start;
-    match first.kind {
-        TokenKind::Text(text) => reader.string_first(text, start),
-        _ => reader.value_first(first),
+    let top = reader.whole()?;
+    Ok(reader.draft.finish(top)?)
+}
+
+/// Reads a text, and builds its value from the binary file.
+///
+/// # Errors
+///
+/// Fails like [`draft_text`].
+pub fn read_text(alloc: Global, octets: &[u8]) -> Result<Value, TextFault>
+    // The bytes are a text of the value, which is within the limits.
+    ensures read { IfOk result (λ value. IsText octets.now (view value)) }
+    // The fault is true at its place.
+    ensures stands { IfErr result (Stands octets.now) }
+    // The bytes are not a text of any value.
+    ensures refused { IfErr result (λ fault.
+        fault ≢ TextFault.OutOfMemory → IsNoText octets.now) }
+{
+    plist_object::laws::one_value_at_top();
+    let file = draft_text(alloc, octets)?;
+    match plist_binary::read(alloc, &file) {
+        Ok(value) => Ok(value),
+        Err(fault) => match fault {
+            BinaryFault::OutOfMemory => Err(TextFault::OutOfMemory),
+            _ => unreachable!(),
+        },
     }
 }

@@ -1,168 +1,82 @@
-//! Parsing values, arrays, dictionaries and whole texts as their tokens are read.
-ghost use Rattle.std.specs.Prelude.{◌≡◌, ◌≤◌, ◌*◌, ◌∷◌, ◌++◌, [], false, ℕ, List};
-ghost use Rattle.std.specs.Prelude.{length, IfOk, IfErr};
+//! Reading values, arrays and dictionaries into a draft, as their tokens are read.
+ghost use Rattle.std.specs.Prelude.{◌≡◌, ◌≤◌, ◌*◌, ◌∷◌, ◌++◌, [], false, ℕ, List, length};
+ghost use Rattle.std.specs.Prelude.{IfOk, IfErr};
 ghost use Rattle.std.specs.Result.{OnOk};
-ghost use Rattle.plist_value.specs.declared.budget.Budget.{Budget as Left};
-ghost use Rattle.plist_value.specs.Plist.{Plist, Pairs, AreUnits, IsPlist, scalar, text};
-ghost use Rattle.plist_value.specs.Limits.{Fits};
+ghost use Rattle.plist_value.specs.Plist.{Pairs, AreUnits, scalar, text as units};
+ghost use Rattle.plist_value.specs.Texts.{units_of};
 ghost use Rattle.plist_value.specs.Budget.{Spends};
-ghost use Rattle.ostep_lex.specs.Lexeme.{Lexeme, Placed, placed, lexeme_of, text as string};
-ghost use Rattle.ostep_lex.specs.Lexeme.{paren_close, brace_close};
+ghost use Rattle.ostep_lex.specs.Lexeme.{Placed, placed, lexeme_of, text as string, paren_close};
+ghost use Rattle.ostep_lex.specs.Lexeme.{brace_close};
 ghost use Rattle.ostep_lex.specs.Cursor.{ahead};
-ghost use Rattle.ostep_text.specs.Begun.{Before, nothing, opened, with_rows};
+ghost use Rattle.ostep_text.specs.Begun.{Before, opened, with_rows};
 ghost use Rattle.ostep_text.specs.Sorting.{has_key};
-ghost use Rattle.ostep_text.specs.Means.{MeanItems, IsBuilt, IsBuiltOf};
+ghost use Rattle.plist_draft.specs.Encoded.{Keeps, SpellsIn, SpellItemsIn};
+ghost use Rattle.plist_draft.specs.View.{objects};
+ghost use Rattle.ostep_text.specs.Drafted.{IsBuilt, SpellsRow, SpellsRows};
+ghost use Rattle.ostep_text.specs.First.{first_placed, IsValid};
 ghost use Rattle.ostep_text.specs.Stands.{Stands};
-ghost use Rattle.ostep_text.specs.Machine.{Around, at_front, begun, top};
+ghost use Rattle.ostep_text.specs.Machine.{Around};
 ghost use Rattle.ostep_text.specs.Reading.{Front, AreBefore, HasRead, IsLeft, MayRefuse};
-ghost use Rattle.ostep_text.specs.Reading.{ReadsValue, ReadsEnded, ReadsItems, ReadsRow, ReadsRows};
+ghost use Rattle.ostep_text.specs.Reading.{ReadsValue, ReadsEnded, ReadsItems, ReadsRow};
+ghost use Rattle.ostep_text.specs.Reading.{ReadsPairs};
 ghost use Rattle.ostep_text.specs.Reading.{Takes, TakesItems, TakesPairs, TakesRow};
 ghost use Rattle.ostep_text.specs.Due.{ValueDue, RowValueDue, ListDue, TableDue, RowDue};
 
 use crate::TextFault;
-use crate::built::Built;
+use crate::building::{put_data, put_key, put_list, put_table, put_text};
+use crate::entries::Rows;
+use crate::first::First;
+use crate::key::Key;
+use crate::keys::KeySet;
 use crate::payloads::{data_payload, text_payload};
-use crate::tokens::{Tokens, begins_value};
+use crate::tokens::Tokens;
 use ostep_lex::{Token, TokenKind};
-use plist_value::{Budget, MAX_DEPTH, Utf16};
+use plist_draft::Draft;
+use plist_value::{Budget, TextRef};
 use std::alloc::Global;
 
-// The depth allowed inside a dictionary without braces.
-const BARE_LEVELS: u64 = MAX_DEPTH - 1;
-
-// The tokens not yet read, and what is left of the limits.
+// The tokens not yet read, what is left of the limits, and the draft of what was read.
 #[derive(Drop)]
 pub(crate) struct Reader<'a> {
     pub(crate) alloc: Global,
     pub(crate) tokens: Tokens<'a>,
     pub(crate) left: Budget,
+    pub(crate) draft: Draft,
 }
 
 impl<'a> Reader<'a> {
-    // Reads a text that begins with this token, which is not a string.
-    pub(crate) fn value_first<N: Built>(&mut self, first: Token) -> Result<N, TextFault>
-        ensures read { (octets : List ℕ) → HasRead octets (placed first ∷ []) self.old.tokens
-            → IsLeft self.old.left MAX_DEPTH nothing
-            → IfOk result (IsBuiltOf N.means octets) }
-        ensures stands { (octets : List ℕ) → HasRead octets (placed first ∷ []) self.old.tokens
-            → IsLeft self.old.left MAX_DEPTH nothing
-            → at_front (lexeme_of first.kind) ≡ begun top (lexeme_of first.kind)
-            → IfErr result (Stands octets) }
-    {
-        if !begins_value(&first.kind) {
-            let octet = first.start;
-            return Err(self.tokens.refuse(TextFault::Expected { octet }));
-        }
-        let value = self.value(first, MAX_DEPTH)?;
-        self.finish(value)
-    }
-
-    // Returns `value` if the text ends after it. Its first token is not a string.
-    fn finish<N: Built>(&mut self, value: N) -> Result<N, TextFault>
-        ensures read { (octets : List ℕ) (first : Lexeme) (v : Plist) → N.means value v
-            → ReadsValue octets [] first v self.old.tokens → IsPlist v → Fits v
-            → IfOk result (IsBuiltOf N.means octets) }
-        ensures stands { (octets : List ℕ) (first : Lexeme) (v : Plist)
-            → ReadsValue octets [] first v self.old.tokens
-            → at_front first ≡ begun top first
-            → IfErr result (Stands octets) }
-    {
-        match self.tokens.next()? {
-            None => Ok(value),
-            Some(token) => Err(self.tokens.refuse(TextFault::Junk { octet: token.start })),
-        }
-    }
-
-    // Reads a text that begins with this string: the string alone, or a dictionary without braces.
-    pub(crate) fn string_first<N: Built>(
-        &mut self,
-        text: Utf16,
-        octet: usize,
-    ) -> Result<N, TextFault>
-        ensures read { (octets : List ℕ) (at : Placed) → at.lexeme ≡ string text
-            → at.start ≡ octet → HasRead octets (at ∷ []) self.old.tokens
-            → IsLeft self.old.left MAX_DEPTH nothing
-            → IfOk result (IsBuiltOf N.means octets) }
-        ensures stands { (octets : List ℕ) (at : Placed) → at.lexeme ≡ string text
-            → at.start ≡ octet → HasRead octets (at ∷ []) self.old.tokens
-            → IsLeft self.old.left MAX_DEPTH nothing
-            → IfErr result (Stands octets) }
-    {
-        let Some(second) = self.tokens.next()? else {
-            self.charge(octet, MAX_DEPTH, text_payload(&text))?;
-            return Ok(N::of_text(text));
-        };
-        match second.kind {
-            TokenKind::Equals => {
-                self.first_key(&text, octet)?;
-                let value = self.row_value(BARE_LEVELS)?;
-                self.bare_table::<N>(text, value)
-            }
-            TokenKind::Semicolon => {
-                self.first_key(&text, octet)?;
-                let value = self.key_alone(&text, octet, BARE_LEVELS)?;
-                self.bare_table::<N>(text, value)
-            }
-            _ => {
-                self.charge(octet, MAX_DEPTH, text_payload(&text))?;
-                let octet = second.start;
-                Err(self.tokens.refuse(TextFault::Junk { octet }))
-            }
-        }
-    }
-
-    // Counts a dictionary without braces, as a node at its first token, and its first key. The
-    // token after the key was read already.
-    fn first_key(&mut self, key: &Utf16, octet: usize) -> Result<(), TextFault>
-        ensures spent { OnOk result (Spends self.old.left 2 (2 * length key.now) self.new.left) }
-        ensures valid { OnOk result (AreUnits key.now) }
-        ensures tokens { self.new.tokens ≡ self.old.tokens }
-        ensures stands { (octets : List ℕ) (at after : Placed) → at.lexeme ≡ string key.now
-            → at.start ≡ octet → HasRead octets (at ∷ after ∷ []) self.old.tokens
-            → IsLeft self.old.left MAX_DEPTH nothing
-            → IfErr result (Stands octets) }
-    {
-        self.charge(octet, MAX_DEPTH, 0)?;
-        self.charge(octet, BARE_LEVELS, text_payload(key))
-    }
-
-    // Reads a dictionary without braces after its first row.
-    fn bare_table<N: Built>(&mut self, key: Utf16, value: N) -> Result<N, TextFault>
-        ensures read { (octets : List ℕ) (left : Left) (v : Plist) → N.means value v
-            → IsLeft left BARE_LEVELS (opened nothing)
-            → TakesRow left BARE_LEVELS key v self.old.left
-            → ReadsRow octets [] key v self.old.tokens
-            → IfOk result (IsBuiltOf N.means octets) }
-        ensures stands { (octets : List ℕ) (left : Left) (v : Plist) → N.means value v
-            → IsLeft left BARE_LEVELS (opened nothing)
-            → TakesRow left BARE_LEVELS key v self.old.left
-            → ReadsRow octets [] key v self.old.tokens
-            → IfErr result (Stands octets) }
-    {
-        let mut rows = N::no_rows(self.alloc);
-        N::add_row(&mut rows, key, value)?;
-        while let Some(token) = self.tokens.next()? {
-            let octet = token.start;
-            match token.kind {
-                TokenKind::Text(key) => {
-                    let known = N::has_row(&rows, &key);
-                    let value = self.row(&key, octet, BARE_LEVELS, known)?;
-                    N::add_row(&mut rows, key, value)?;
-                }
-                _ => {
-                    return Err(self.tokens.refuse(TextFault::Junk { octet }));
-                }
-            }
-        }
-        Ok(N::of_rows(rows))
-    }
-
     // Reads the value that begins with this token; `levels` is the depth allowed for it.
     #[cycle(value)]
-    fn value<N: Built>(&mut self, first: Token, levels: u64) -> Result<N, TextFault>
+    #[inline(always)]
+    pub(crate) fn value(&mut self, first: First<'_>, levels: u64) -> Result<u32, TextFault>
+        requires { IsValid first }
         ensures shorter { OnOk result
             (length (ahead self.new.tokens.cursor) ≤ length (ahead self.old.tokens.cursor)) }
-        ensures built { IfOk result (λ value. IsBuilt N.means value
+        ensures kept { OnOk result (Keeps (objects self.old.draft) (objects self.new.draft)) }
+        ensures built { IfOk result (λ number. IsBuilt (SpellsIn (objects self.new.draft)) number
+            (λ v. Takes self.old.left levels v self.new.left)
+            (λ v. (octets : List ℕ) (tokens : List Placed)
+            → HasRead octets (tokens ++ first_placed first.entry ∷ []) self.old.tokens
+            → ReadsValue octets tokens (first_placed first.entry).lexeme v self.new.tokens)) }
+        ensures stands { (octets : List ℕ) (tokens : List Placed) (whole : Front) (b : Before)
+            (a : Around) → AreBefore tokens whole
+            → HasRead octets (tokens ++ first_placed first.entry ∷ []) self.old.tokens
+            → ValueDue whole b a (first_placed first.entry).lexeme
+            → IsLeft self.old.left levels b → IfErr result (Stands octets) }
+    {
+        match first {
+            First::Plain(token) => self.string(token.text, token.start, levels),
+            First::Other(token) => self.token_value(token, levels),
+        }
+    }
+
+    // Like [`value`](Reader::value), at a token that is not borrowed.
+    #[cycle(value)]
+    pub(crate) fn token_value(&mut self, first: Token, levels: u64) -> Result<u32, TextFault>
+        ensures shorter { OnOk result
+            (length (ahead self.new.tokens.cursor) ≤ length (ahead self.old.tokens.cursor)) }
+        ensures kept { OnOk result (Keeps (objects self.old.draft) (objects self.new.draft)) }
+        ensures built { IfOk result (λ number. IsBuilt (SpellsIn (objects self.new.draft)) number
             (λ v. Takes self.old.left levels v self.new.left)
             (λ v. (octets : List ℕ) (tokens : List Placed)
             → HasRead octets (tokens ++ placed first ∷ []) self.old.tokens
@@ -175,23 +89,20 @@ impl<'a> Reader<'a> {
     {
         let octet = first.start;
         match first.kind {
-            TokenKind::Text(text) => {
-                self.charge(octet, levels, text_payload(&text))?;
-                Ok(N::of_text(text))
-            }
+            TokenKind::Text(text) => { self.string(TextRef::of_units(text.units()), octet, levels) }
             TokenKind::Octets(octets) => {
                 self.charge(octet, levels, data_payload(octets.as_slice()))?;
-                Ok(N::of_data(octets))
+                put_data(&mut self.draft, &octets)
             }
             TokenKind::ParenOpen => {
                 self.charge(octet, levels, 0)?;
                 let items = self.items(levels - 1)?;
-                Ok(N::of_items(items))
+                put_list(&mut self.draft, &items)
             }
             TokenKind::BraceOpen => {
                 self.charge(octet, levels, 0)?;
-                let rows = self.rows::<N>(levels - 1)?;
-                Ok(N::of_rows(rows))
+                let rows = self.rows(levels - 1)?;
+                put_table(&mut self.draft, &rows)
             }
             _ => Err(self.tokens.refuse(TextFault::Expected { octet })),
         }
@@ -199,10 +110,12 @@ impl<'a> Reader<'a> {
 
     // Reads the items of an array after its `(`, up to and with its `)`.
     #[cycle(value)]
-    fn items<N: Built>(&mut self, levels: u64) -> Result<Vec<N>, TextFault>
+    fn items(&mut self, levels: u64) -> Result<Vec<u32>, TextFault>
         ensures shorter { OnOk result
             (length (ahead self.new.tokens.cursor) ≤ length (ahead self.old.tokens.cursor)) }
-        ensures built { IfOk result (λ items. IsBuilt (MeanItems N.means) items.items
+        ensures kept { OnOk result (Keeps (objects self.old.draft) (objects self.new.draft)) }
+        ensures built { IfOk result (λ items.
+            IsBuilt (SpellItemsIn (objects self.new.draft)) items.items
             (λ vs. TakesItems self.old.left levels vs self.new.left)
             (λ vs. (octets : List ℕ) (tokens : List Placed) → HasRead octets tokens self.old.tokens
             → ReadsItems octets tokens (paren_close ∷ []) vs self.new.tokens)) }
@@ -213,8 +126,8 @@ impl<'a> Reader<'a> {
     {
         let mut items = Vec::new(self.alloc);
         loop {
-            let first = self.tokens.expect()?;
-            if let TokenKind::ParenClose = first.kind {
+            let first = self.tokens.expect_first()?;
+            if first.ends_list() {
                 return Ok(items);
             }
             let item = self.value(first, levels)?;
@@ -233,50 +146,55 @@ impl<'a> Reader<'a> {
 
     // Reads the rows of a dictionary after its `{`, up to and with its `}`.
     #[cycle(value)]
-    fn rows<N: Built>(&mut self, levels: u64) -> Result<N::Rows, TextFault>
+    fn rows(&mut self, levels: u64) -> Result<Rows, TextFault>
         ensures shorter { OnOk result
             (length (ahead self.new.tokens.cursor) ≤ length (ahead self.old.tokens.cursor)) }
-        ensures built { IfOk result (λ rows. IsBuilt N.hold rows
+        ensures even { IfOk result (λ rows.
+            length rows.keys.items ≡ length rows.values.items) }
+        ensures kept { OnOk result (Keeps (objects self.old.draft) (objects self.new.draft)) }
+        ensures built { IfOk result (λ rows. IsBuilt (SpellsRows (objects self.new.draft)) rows
             (λ ps. TakesPairs self.old.left levels ps self.new.left)
             (λ ps. (octets : List ℕ) (tokens : List Placed) → HasRead octets tokens self.old.tokens
-            → ReadsRows octets tokens (brace_close ∷ []) ps self.new.tokens)) }
+            → ReadsPairs octets tokens (brace_close ∷ []) ps self.new.tokens)) }
         ensures stands { (octets : List ℕ) (tokens : List Placed) (whole : Front) (b : Before)
             (a : Around) → AreBefore tokens whole → HasRead octets tokens self.old.tokens
             → TableDue whole b a → IsLeft self.old.left levels (opened b)
             → IfErr result (Stands octets) }
     {
-        let mut rows = N::no_rows(self.alloc);
+        let mut keys = KeySet::new(self.alloc);
+        let mut rows = Rows::new(self.alloc);
         loop {
-            let token = self.tokens.expect()?;
-            let octet = token.start;
-            match token.kind {
-                TokenKind::BraceClose => return Ok(rows),
-                TokenKind::Text(key) => {
-                    let known = N::has_row(&rows, &key);
-                    let value = self.row(&key, octet, levels, known)?;
-                    N::add_row(&mut rows, key, value)?;
-                }
-                _ => {
-                    return Err(self.tokens.refuse(TextFault::Expected { octet }));
-                }
+            let first = self.tokens.expect_first()?;
+            if first.ends_table() {
+                return Ok(rows);
             }
+            let octet = first.start();
+            let Some(key) = first.key() else {
+                return Err(self.tokens.refuse(TextFault::Expected { octet }));
+            };
+            let known = keys.contains(&key);
+            let row = self.row(&key, octet, levels, known)?;
+            rows.push(row)?;
+            keys.insert(key)?;
         }
     }
 
     // Reads the rest of a row after its key, which begins at `octet`. Refuses the key if it is
     // already `known`.
     #[cycle(value)]
-    fn row<N: Built>(
+    pub(crate) fn row(
         &mut self,
-        key: &Utf16,
+        key: &Key<'_>,
         octet: usize,
         levels: u64,
         known: bool,
-    ) -> Result<N, TextFault>
+    ) -> Result<(u32, u32), TextFault>
         ensures shorter { OnOk result
             (length (ahead self.new.tokens.cursor) ≤ length (ahead self.old.tokens.cursor)) }
         ensures once { OnOk result (known ≡ false) }
-        ensures built { IfOk result (λ value. IsBuilt N.means value
+        ensures kept { OnOk result (Keeps (objects self.old.draft) (objects self.new.draft)) }
+        ensures built { IfOk result (λ row.
+            IsBuilt (SpellsRow (objects self.new.draft) key.now) row
             (λ v. TakesRow self.old.left levels key.now v self.new.left)
             (λ v. (octets : List ℕ) (tokens : List Placed) (at : Placed)
             → at.lexeme ≡ string key.now → HasRead octets (tokens ++ at ∷ []) self.old.tokens
@@ -289,14 +207,21 @@ impl<'a> Reader<'a> {
             → IsLeft self.old.left levels (with_rows before b)
             → IfErr result (Stands octets) }
     {
-        self.charge(octet, levels, text_payload(key))?;
+        self.charge(octet, levels, key.payload())?;
         if known {
             return Err(self.tokens.refuse(TextFault::DuplicateKey { octet }));
         }
+        let number = put_key(&mut self.draft, key)?;
         let after = self.tokens.expect_mark('=')?;
         match after.kind {
-            TokenKind::Equals => self.row_value(levels),
-            TokenKind::Semicolon => self.key_alone(key, octet, levels),
+            TokenKind::Equals => {
+                let value = self.row_value(levels)?;
+                Ok((number, value))
+            }
+            TokenKind::Semicolon => {
+                self.charge(octet, levels, key.payload())?;
+                Ok((number, number))
+            }
             _ => {
                 let octet = after.start;
                 Err(self.tokens.refuse(TextFault::Expected { octet }))
@@ -306,10 +231,11 @@ impl<'a> Reader<'a> {
 
     // Reads the value of a row after its `=`, and the `;` after it.
     #[cycle(value)]
-    fn row_value<N: Built>(&mut self, levels: u64) -> Result<N, TextFault>
+    pub(crate) fn row_value(&mut self, levels: u64) -> Result<u32, TextFault>
         ensures shorter { OnOk result
             (length (ahead self.new.tokens.cursor) ≤ length (ahead self.old.tokens.cursor)) }
-        ensures built { IfOk result (λ value. IsBuilt N.means value
+        ensures kept { OnOk result (Keeps (objects self.old.draft) (objects self.new.draft)) }
+        ensures built { IfOk result (λ number. IsBuilt (SpellsIn (objects self.new.draft)) number
             (λ v. Takes self.old.left levels v self.new.left)
             (λ v. (octets : List ℕ) (tokens : List Placed) → HasRead octets tokens self.old.tokens
             → ReadsEnded octets tokens v self.new.tokens)) }
@@ -318,7 +244,7 @@ impl<'a> Reader<'a> {
             → RowValueDue whole b t → IsLeft self.old.left levels b
             → IfErr result (Stands octets) }
     {
-        let first = self.tokens.expect()?;
+        let first = self.tokens.expect_first()?;
         let value = self.value(first, levels)?;
         let after = self.tokens.expect_mark(';')?;
         match after.kind {
@@ -330,33 +256,43 @@ impl<'a> Reader<'a> {
         }
     }
 
-    // Builds the value of a key without `=`, which is the key itself and begins at `octet`.
-    fn key_alone<N: Built>(
+    // Reads a string that begins at `octet`, which is a value or a key; `levels` is the depth
+    // allowed for it.
+    pub(crate) fn string(
         &mut self,
-        key: &Utf16,
+        text: TextRef<'_>,
         octet: usize,
         levels: u64,
-    ) -> Result<N, TextFault>
-        ensures tokens { self.new.tokens ≡ self.old.tokens }
-        ensures means { IfOk result (λ value. N.means value (scalar (text key.now))) }
-        ensures spent { OnOk result (Spends self.old.left 1 (2 * length key.now) self.new.left) }
+    ) -> Result<u32, TextFault>
+        requires { AreUnits (units_of text) }
+        ensures spent { OnOk result
+            (Spends self.old.left 1 (2 * length (units_of text.entry)) self.new.left) }
         ensures deep { OnOk result (1 ≤ levels) }
+        ensures tokens { self.new.tokens ≡ self.old.tokens }
+        ensures kept { OnOk result (Keeps (objects self.old.draft) (objects self.new.draft)) }
+        ensures spells { IfOk result (λ number.
+            SpellsIn (objects self.new.draft) number (scalar (units (units_of text.entry)))) }
         ensures stands { (octets : List ℕ) (tokens : List Placed)
             → HasRead octets tokens self.old.tokens
-            → MayRefuse octets octet levels (2 * length key.now) self.old.left
+            → MayRefuse octets octet levels (2 * length (units_of text.entry)) self.old.left
             → IfErr result (Stands octets) }
     {
-        let payload = text_payload(key);
-        self.charge(octet, levels, payload)?;
-        Ok(N::of_key(key, self.alloc)?)
+        self.charge(octet, levels, text_payload(text))?;
+        put_text(&mut self.draft, text)
     }
 
     // Counts a node that begins at `octet`, and its payload, against the limits; `levels` is the
     // depth allowed for it.
-    fn charge(&mut self, octet: usize, levels: u64, payload: u128) -> Result<(), TextFault>
+    pub(crate) fn charge(
+        &mut self,
+        octet: usize,
+        levels: u64,
+        payload: u128,
+    ) -> Result<(), TextFault>
         ensures spent { OnOk result (Spends self.old.left 1 payload self.new.left) }
         ensures deep { OnOk result (1 ≤ levels) }
         ensures tokens { self.new.tokens ≡ self.old.tokens }
+        ensures draft { self.new.draft ≡ self.old.draft }
         ensures stands { (octets : List ℕ) (tokens : List Placed)
             → HasRead octets tokens self.old.tokens
             → MayRefuse octets octet levels payload self.old.left

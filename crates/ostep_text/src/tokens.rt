@@ -9,9 +9,11 @@ ghost use Rattle.ostep_text.specs.Begun.{begins_value};
 ghost use Rattle.ostep_text.specs.Stands.{Stands};
 ghost use Rattle.ostep_text.specs.Reading.{Front, AreBefore, HasRead, StandsIfLexed};
 ghost use Rattle.ostep_text.specs.Due.{IsOpen};
+ghost use Rattle.ostep_text.specs.First.{first_placed, IsValid};
 
 use crate::TextFault;
-use ostep_lex::{Cursor, Token, TokenKind, next_mark, next_token};
+use crate::first::First;
+use ostep_lex::{Cursor, Token, TokenKind, next_mark, next_plain, next_token};
 use std::alloc::Global;
 
 // The tokens from `cursor` on of an input of `end` bytes.
@@ -56,6 +58,48 @@ impl<'a> Tokens<'a> {
         let end = self.end;
         match self.next()? {
             Some(token) => Ok(token),
+            None => Err(TextFault::Expected { octet: end }),
+        }
+    }
+
+    // Like [`next`](Tokens::next), but borrows a plain string from the input.
+    #[inline(always)]
+    pub(crate) fn next_first(&mut self) -> Result<Option<First<'a>>, TextFault>
+        ensures read { (octets : List ℕ) (tokens : List Placed) → HasRead octets tokens self.old
+            → IfOk result (λ found. MatchOption found (HasTokens octets tokens)
+            (λ first. HasRead octets (tokens ++ first_placed first ∷ []) self.new)) }
+        ensures valid { IfOk result (λ found. IfSome found IsValid) }
+        ensures shorter { IfOk result (λ found. IfSome found (λ _.
+            length (ahead self.new.cursor) < length (ahead self.old.cursor))) }
+        ensures stands { (octets : List ℕ) (tokens : List Placed)
+            → HasRead octets tokens self.old → IfErr result (Stands octets) }
+    {
+        if let Some((token, after)) = next_plain(self.cursor) {
+            self.cursor = after;
+            return Ok(Some(First::Plain(token)));
+        }
+        match self.next()? {
+            Some(token) => Ok(Some(First::Other(token))),
+            None => Ok(None),
+        }
+    }
+
+    // Like [`next_first`](Tokens::next_first), but fails at the end of the text.
+    #[inline(always)]
+    pub(crate) fn expect_first(&mut self) -> Result<First<'a>, TextFault>
+        ensures read { (octets : List ℕ) (tokens : List Placed) → HasRead octets tokens self.old
+            → IfOk result (λ first.
+            HasRead octets (tokens ++ first_placed first ∷ []) self.new) }
+        ensures valid { IfOk result IsValid }
+        ensures shorter { OnOk result
+            (length (ahead self.new.cursor) < length (ahead self.old.cursor)) }
+        ensures stands { (octets : List ℕ) (tokens : List Placed) (whole : Front)
+            → AreBefore tokens whole → HasRead octets tokens self.old → IsOpen whole
+            → IfErr result (Stands octets) }
+    {
+        let end = self.end;
+        match self.next_first()? {
+            Some(first) => Ok(first),
             None => Err(TextFault::Expected { octet: end }),
         }
     }

@@ -3,7 +3,8 @@ ghost use Rattle.std.specs.Prelude.{◌≡◌, ◌++◌, true, false, Some, None
 ghost use Rattle.plist_value.specs.Plist.{list, table};
 ghost use Rattle.plist_value.specs.Limits.{Fits};
 ghost use Rattle.plist_value.specs.View.{view, view_items, view_pairs};
-ghost use Rattle.ostep_text.specs.Written.{is_writable, written, text_of};
+ghost use Rattle.plist_value.specs.Writable.{is_writable};
+ghost use Rattle.ostep_text.specs.Written.{written, text_of};
 ghost use Rattle.ostep_text.specs.declared.write_fault.TextWriteFault.TheVariants.{NotInOpenStep};
 
 use crate::TextWriteFault;

@@ -1,2 +1,1 @@
-pub mod Marking
 pub mod Texts

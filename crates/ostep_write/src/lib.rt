@@ -2,9 +2,7 @@
 #![tactic(auto)]
 
 mod data;
-pub mod search;
 mod strings;
 pub mod writing;
 
-pub use search::has_text;
 pub use writing::write_text_of;

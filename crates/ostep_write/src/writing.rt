@@ -1,16 +1,18 @@
 //! Writes the OpenStep text of a binary file's value to a sink.
 ghost use Rattle.std.specs.Prelude.{◌≡◌, ◌++◌, codes, true};
 ghost use Rattle.plist_value.specs.Plist.{Plist};
+ghost use Rattle.plist_object.specs.KeyOrder.{IsReady};
 ghost use Rattle.plist_object.specs.Spelled.{IsBinary};
 ghost use Rattle.plist_object.specs.Views.{octets_of};
 ghost use Rattle.plist_engine.specs.Sending.{IsWritten};
-ghost use Rattle.ostep_text.specs.Written.{is_writable, written};
+ghost use Rattle.plist_value.specs.Writable.{is_writable};
+ghost use Rattle.ostep_text.specs.Written.{written};
 ghost use Rattle.ostep_write.specs.Writing.{written_parts};
 
 use crate::data::write_data;
 use crate::strings::write_string;
 use plist_engine::{Mark, Notation, Output, Sink, WriteFault, write_in_notation};
-use plist_object::BinFile;
+use plist_object::JudgedFile;
 use plist_value::{ScalarRef, TextRef};
 use std::alloc::Global;
 
@@ -23,15 +25,20 @@ use std::alloc::Global;
 /// [`WriteFault::WriteFailed`] (51) if the sink fails. [`WriteFault::OutOfMemory`] (60) if out of
 /// memory for a key order or for a piece, or if the output would exceed `u64::MAX` bytes. In both
 /// cases exactly the first `sent` bytes of the text were written.
-pub fn write_text_of<W: Sink>(alloc: Global, file: &BinFile, out: &mut W) -> Result<u64, WriteFault>
-    requires binary { (v : Plist) × IsBinary (octets_of file.now) v }
-    requires writable { (v : Plist) → IsBinary (octets_of file.now) v → is_writable v ≡ true }
-    ensures written { (v : Plist) → IsBinary (octets_of file.now) v
+pub fn write_text_of<W: Sink>(
+    alloc: Global,
+    judged: JudgedFile,
+    out: &mut W,
+) -> Result<u64, WriteFault>
+    requires binary { (v : Plist) × IsBinary (octets_of judged.file) v }
+    requires writable { (v : Plist) → IsBinary (octets_of judged.file) v → is_writable v ≡ true }
+    requires ready { IsReady (octets_of judged.file) judged.order }
+    ensures written { (v : Plist) → IsBinary (octets_of judged.entry.file) v
         → IsWritten (written v ++ codes "\n") (W.taken out.old) (W.taken out.new)
         (W.failures out.old) (W.failures out.new) result }
     ensures same { W.device out.new ≡ W.device out.old }
 {
-    write_in_notation::<W, OpenStep>(alloc, file, out)
+    write_in_notation::<W, OpenStep>(alloc, judged, out)
 }
 
 // The notation of OpenStep texts.

@@ -4,17 +4,14 @@ use Rattle.std.specs.List.{IsDistinct, zip}
 use Rattle.std.specs.List.Sorted.{IsPermutation}
 use Rattle.plist_value.specs.Plist.{text, Plist, scalar, list, table, Items, no_items, item, Pairs, IsPlist, AreItems}
 use Rattle.plist_value.specs.Limits.{depth, depth_of_items}
-use Rattle.plist_value.specs.Limits.{Fits}
-use Rattle.plist_value.specs.declared.TheConstants.{MAX_DEPTH}
 use Rattle.plist_value.specs.View.{items_of}
 use Rattle.plist_object.specs.Layout.{trailer_of}
 use Rattle.plist_object.specs.Objects.{holds_scalar, holds_list, holds_table}
 use Rattle.plist_object.specs.Places.{Holds}
-use Rattle.plist_object.specs.Spelled.{Spells, SpellItems, SpellsWithin}
+use Rattle.plist_object.specs.Spelled.{IsBinary, Spells, SpellItems, SpellsWithin}
 use Rattle.plist_object.proofs.Ascending.{Among, Among-contains}
 use Rattle.plist_object.proofs.Uniqueness.{same_held, same_value}
 use Rattle.plist_binary.specs.Building.{AllSpellWithin, AllSpellTexts, SpellsText, SpellsPairsWithin, HoldsSome, AreSpelled, AreTexts, PairsSpelled, IsSpelled}
-use Rattle.plist_binary.specs.Passing.{PassesTop}
 use Rattle.plist_binary.specs.Readings.{texts}
 use Rattle.plist_binary.proofs.ItemSteps.{Spells-held, texts-push, next, SpellItems-push}
 use Rattle.plist_binary.proofs.Ascents.{same_key}
@@ -142,22 +139,7 @@ valid_texts f keys values levels us within are =
     let apart = unsorted f keys values levels within in
     subst (λ (l : List (List ℕ)). AreItems (texts l)) (same_texts f keys apart.us us apart.spell_keys are.spell) apart.valid_keys
 
--- the value found at the top is within the limits
-pub Fits-top : (f : List ℕ) (v : Plist) → PassesTop f → IsSpelled f (trailer_of f).top v → Fits v
-Fits-top f v passed is =
-    let reads = passed.passes.reads in
-    let same = same_value f (trailer_of f).top passed.passes.value v reads.valid is.valid reads.spells is.spells in
-    subst Fits same record {
-      nodes_fit = omega (arith, reads.spent.nodes_left);
-      depth_fits = reads.deep;
-      payload_fits = omega (arith, reads.spent.payload_left);
-    }
-
--- the top object encodes a value of at most the maximum depth
-pub SpellsWithin-top : (f : List ℕ) → PassesTop f → SpellsWithin f (trailer_of f).top MAX_DEPTH
-SpellsWithin-top f passed = record {
-  value = passed.passes.value;
-  spells = passed.passes.reads.spells;
-  valid = passed.passes.reads.valid;
-  deep = passed.passes.reads.deep;
-}
+-- the value that was built is the one that the file encodes
+pub IsBinary-built : (f : List ℕ) (v w : Plist) → IsBinary f w → IsSpelled f (trailer_of f).top v → IsBinary f v
+IsBinary-built f v w binary is =
+    subst (IsBinary f) (same_value f (trailer_of f).top w v binary.valid is.valid binary.spells is.spells) binary

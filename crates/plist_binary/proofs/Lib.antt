@@ -10,3 +10,4 @@ mod Worked
 pub mod PassSteps
 pub mod Sorting
 pub mod BuildSteps
+pub mod Writable

@@ -144,7 +144,7 @@ narrower f path j i Open apart is = earlier i j path apart is
 narrower f path j i _ apart is = is
 
 -- the object itself, or another one
-marked : (P : ℕ → State → Type 0) (before after : List State) (j : ℕ) (state : State) (i : ℕ) → IsMarked before j state after → P j state → (i ≢ j → P i (state_of before i)) → P i (state_of after i)
+pub marked : (P : ℕ → State → Type 0) (before after : List State) (j : ℕ) (state : State) (i : ℕ) → IsMarked before j state after → P j state → (i ≢ j → P i (state_of before i)) → P i (state_of after i)
 marked P before after j state i mark here there =
     ⊎_elim
     (λ (same : (eqb i j ≡ true) × (i ≡ j)).
@@ -184,6 +184,7 @@ IsProgress-last f path j progress so_far = record {
     each = λ i apart. narrower f path j i (state_of progress.states.items i) apart (so_far.states.each i);
     opened = λ i apart among. so_far.states.opened i (Contains-among i (j ∷ path) (inr (Among-contains i path among)));
   };
+  texts = so_far.texts;
   last = so_far.last;
   ready = so_far.ready;
   within = so_far.within;

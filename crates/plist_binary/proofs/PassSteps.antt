@@ -1,31 +1,36 @@
 -- What is passed, from its content, its items or its pairs, or from what was known of it.
-use Rattle.std.proofs.Common.{◌≡◌, ℕ, ◌+◌, ◌<◌, ◌≤◌, refl, max, List, [], ◌∷◌, ◌++◌, length, take, slice_index, Ok, sym, subst, arith}
+use Rattle.std.proofs.Common.{◌≡◌, ℕ, ◌+◌, ◌<◌, ◌≤◌, Bool, true, refl, max, List, [], ◌∷◌, ◌++◌, length, map, take, slice_index, Ok, ap, sym, ◌∙◌, subst, arith}
+use Rattle.std.specs.Prelude.{◌&&◌}
 use Rattle.std.specs.Ordering.{nat_cmp}
 use Rattle.std.specs.Cmp.Lexicographic.{slice_cmp}
 use Rattle.std.specs.List.{zip}
 use Rattle.std.specs.List.Sorted.{IsPermutation, IsStrictlySortedBy}
+use Rattle.std.proofs.lemmas.List.Sorted.{IsPermutation-map}
+use Rattle.std.proofs.lemmas.Slice.Zip.{seconds-zip}
 use Rattle.plist_value.specs.declared.budget.Budget.{Budget}
 use Rattle.plist_value.specs.Budget.{Spends}
 use Rattle.plist_value.specs.Plist.{Scalar, Plist, scalar, text, list, table, Items, IsScalar}
 use Rattle.plist_value.specs.Limits.{payload_of_scalar}
 use Rattle.plist_value.specs.View.{items_of, pairs_of}
+use Rattle.plist_value.specs.Writable.{is_writable, is_writable_scalar}
 use Rattle.plist_object.specs.Layout.{trailer_of}
 use Rattle.plist_object.specs.Objects.{holds_scalar, holds_list, holds_table}
 use Rattle.plist_object.specs.Places.{what_holds}
 use Rattle.plist_binary.specs.declared.memos.Memo.{Memo}
-use Rattle.plist_binary.specs.Memos.{IsKey, IsMemo}
+use Rattle.plist_binary.specs.Memos.{HasText, IsKey, IsMemo}
 use Rattle.plist_binary.specs.Passing.{Passes, PassesItems, PassesPairs}
 use Rattle.plist_binary.specs.Readings.{Reads, ReadsItems, ReadsKey, texts}
 use Rattle.plist_binary.proofs.Ascents.{zip-firsts}
 use Rattle.plist_binary.proofs.ItemSteps.{ReadsItems-next, Spends-then, Spends-none}
 use Rattle.plist_binary.proofs.Making.{Reads-scalar, Reads-list, Reads-table}
 use Rattle.plist_binary.proofs.Rows.{pull}
+use Rattle.plist_binary.proofs.Writable.{kept, writable-moved, writable-next}
 use Rattle.plist_value.proofs.Items.{items_of-push, depth-push}
 use Rattle.plist_binary.proofs.TableSteps.{ReadsPairs-sorted, pairs_sorted, depth-texts, length-texts, length-items}
 
 -- a value that is known and fits
-pub Passes-memo : (f : List ℕ) (i levels : ℕ) (before after : Budget) (memo : Memo) → IsMemo f i memo → memo.depth ≤ levels → Spends before memo.nodes memo.payload after → Passes f i levels before memo.depth after
-Passes-memo f i levels before after memo is fits spent =
+pub Passes-memo : (f : List ℕ) (i levels : ℕ) (before after : Budget) (memo : Memo) (all : Bool) → IsMemo f i memo → memo.depth ≤ levels → Spends before memo.nodes memo.payload after → (all ≡ true → HasText f i) → Passes f i levels before memo.depth after all all
+Passes-memo f i levels before after memo all is fits spent has =
     record {
       value = is.value;
       reads = record {
@@ -34,12 +39,17 @@ Passes-memo f i levels before after memo is fits spent =
         deep = omega (arith, is.deep);
         spent = Spends-then spent (Spends-none after) (omega (arith, is.nodes_are)) (omega (arith, is.payload_is));
       };
+      writable = kept all (is_writable is.value) (λ h. has h is.value is.valid is.spells);
       depth_is = is.deep;
       within = fits;
     }
 
+-- by what was so before
+pub Passes-from : {f : List ℕ} {i levels : ℕ} {before : Budget} {deep : ℕ} {after : Budget} {first same all : Bool} → first ≡ same → Passes f i levels before deep after first all → Passes f i levels before deep after same all
+Passes-from is passed = rw is at passed
+
 -- what was passed is known afterwards
-pub IsMemo-passed : (f : List ℕ) (i levels : ℕ) (before after : Budget) (deep : ℕ) (memo : Memo) → Passes f i levels before deep after → after.nodes + memo.nodes ≡ before.nodes → after.payload + memo.payload ≡ before.payload → memo.depth ≡ deep → IsMemo f i memo
+pub IsMemo-passed : {first all : Bool} (f : List ℕ) (i levels : ℕ) (before after : Budget) (deep : ℕ) (memo : Memo) → Passes f i levels before deep after first all → after.nodes + memo.nodes ≡ before.nodes → after.payload + memo.payload ≡ before.payload → memo.depth ≡ deep → IsMemo f i memo
 IsMemo-passed f i levels before after deep memo passed nodes_gone payload_gone depth_is = record {
   value = passed.value;
   spells = passed.reads.spells;
@@ -49,51 +59,58 @@ IsMemo-passed f i levels before after deep memo passed nodes_gone payload_gone d
   deep = omega (arith, passed.depth_is, depth_is);
 }
 
-pub Passes-scalar : (f : List ℕ) (i levels : ℕ) (before left after : Budget) (s : Scalar) → i < (trailer_of f).count → what_holds f i ≡ Ok (holds_scalar s) → IsScalar s → 1 ≤ levels → Spends before 1 0 left → Spends left 0 (payload_of_scalar s) after → Passes f i levels before 1 after
-Passes-scalar f i levels before left after s listed reads valid deep node spent = record {
+pub Passes-scalar : {first all : Bool} (f : List ℕ) (i levels : ℕ) (before left after : Budget) (s : Scalar) → i < (trailer_of f).count → what_holds f i ≡ Ok (holds_scalar s) → IsScalar s → 1 ≤ levels → Spends before 1 0 left → Spends left 0 (payload_of_scalar s) after → all ≡ (first && is_writable_scalar s) → Passes f i levels before 1 after first all
+Passes-scalar f i levels before left after s listed reads valid deep node spent writable = record {
   value = scalar s;
+  writable = writable;
   reads = Reads-scalar f i levels before left after s listed reads valid deep node spent;
   depth_is = omega arith;
   within = deep;
 }
 
-pub Passes-list : (f refs : List ℕ) (i levels below : ℕ) (before left after : Budget) (deep : ℕ) → 1 + below ≡ levels → i < (trailer_of f).count → what_holds f i ≡ Ok (holds_list refs) → Spends before 1 0 left → PassesItems f refs below left deep after → Passes f i levels before (1 + deep) after
+pub Passes-list : {first all : Bool} (f refs : List ℕ) (i levels below : ℕ) (before left after : Budget) (deep : ℕ) → 1 + below ≡ levels → i < (trailer_of f).count → what_holds f i ≡ Ok (holds_list refs) → Spends before 1 0 left → PassesItems f refs below left deep after first all → Passes f i levels before (1 + deep) after first all
 Passes-list f refs i levels below before left after deep levels_is listed reads node items = record {
   value = list (items_of items.values);
+  writable = items.writable;
   reads = Reads-list f refs i levels below before left after (items_of items.values) levels_is listed reads node items.reads;
   depth_is = omega (arith, items.depth_is);
   within = omega (arith, items.within);
 }
 
-pub Passes-table : (f keys values : List ℕ) (i levels below : ℕ) (before left after : Budget) (deep : ℕ) → 1 + below ≡ levels → i < (trailer_of f).count → what_holds f i ≡ Ok (holds_table keys values) → Spends before 1 0 left → PassesPairs f keys values below left deep after → Passes f i levels before (1 + deep) after
+pub Passes-table : {first all : Bool} (f keys values : List ℕ) (i levels below : ℕ) (before left after : Budget) (deep : ℕ) → 1 + below ≡ levels → i < (trailer_of f).count → what_holds f i ≡ Ok (holds_table keys values) → Spends before 1 0 left → PassesPairs f keys values below left deep after first all → Passes f i levels before (1 + deep) after first all
 Passes-table f keys values i levels below before left after deep levels_is listed reads node passed = record {
   value = table passed.pairs;
+  writable = passed.writable;
   reads = Reads-table f keys values i levels below before left after passed.pairs levels_is listed reads node passed.reads;
   depth_is = omega (arith, passed.depth_is);
   within = omega (arith, passed.within);
 }
 
-pub PassesItems-next : (f refs : List ℕ) (k i levels : ℕ) (before left after : Budget) (deepest deep : ℕ) → k < length refs → i ≡ slice_index refs k → i < (trailer_of f).count → PassesItems f (take k refs) levels before deepest left → Passes f i levels left deep after → PassesItems f (take (k + 1) refs) levels before (max deepest deep) after
+pub PassesItems-next : {first so_far all : Bool} (f refs : List ℕ) (k i levels : ℕ) (before left after : Budget) (deepest deep : ℕ) → k < length refs → i ≡ slice_index refs k → i < (trailer_of f).count → PassesItems f (take k refs) levels before deepest left first so_far → Passes f i levels left deep after so_far all → PassesItems f (take (k + 1) refs) levels before (max deepest deep) after first all
 PassesItems-next f refs k i levels before left after deepest deep within is listed items one =
     let pushed = items_of-push items.values one.value in
     record {
       values = items.values ++ one.value ∷ [];
+      writable = writable-next _ _ _ items.values one.value items.writable one.writable;
       reads = subst (λ (vs : Items). ReadsItems f (take (k + 1) refs) levels before vs after) (sym pushed) (ReadsItems-next f refs k i levels before left after (items_of items.values) one.value within is listed items.reads one.reads);
       depth_is = rw pushed (depth-push (items_of items.values) one.value (max deepest deep) (omega (arith, items.depth_is)) (omega (arith, one.depth_is)));
       within = omega (arith, items.within, one.within);
     }
 
 -- keys that were read, and have a sorted order, and values that were passed
-pub PassesPairs-sorted : (f keys values : List ℕ) (levels : ℕ) (before left after : Budget) (us sorted : List (List ℕ)) (deep : ℕ) → length keys ≡ length values → ReadsItems f keys levels before (texts us) left → PassesItems f values levels left deep after → IsPermutation us sorted → IsStrictlySortedBy (slice_cmp nat_cmp) sorted → PassesPairs f keys values levels before deep after
+pub PassesPairs-sorted : {first all : Bool} (f keys values : List ℕ) (levels : ℕ) (before left after : Budget) (us sorted : List (List ℕ)) (deep : ℕ) → length keys ≡ length values → ReadsItems f keys levels before (texts us) left → PassesItems f values levels left deep after first all → IsPermutation us sorted → IsStrictlySortedBy (slice_cmp nat_cmp) sorted → PassesPairs f keys values levels before deep after first all
 PassesPairs-sorted f keys values levels before left after us sorted deep long read passed moved ascend =
     let vs = passed.values in
     let many : length us ≡ length vs = omega (arith, length-texts f keys us read.spell, length-items f values vs passed.reads.spell) in
     let firsts : List ℕ × Plist → List ℕ = λ p. p.0 in
     let to_sorted = subst (λ (l : List (List ℕ)). IsPermutation l sorted) (sym (zip-firsts us vs many)) moved in
     let pulled = pull firsts (zip us vs) sorted to_sorted in
+    let seconds : List ℕ × Plist → Plist = λ p. p.1 in
+    let in_order = subst (λ (l : List Plist). IsPermutation l (map seconds pulled.moved_list)) (seconds-zip us vs (sym many)) (IsPermutation-map seconds (zip us vs) pulled.moved_list pulled.moved) in
     let ordered = subst (λ (l : List (List ℕ)). IsStrictlySortedBy (slice_cmp nat_cmp) l) (sym pulled.maps) ascend in
     record {
       pairs = pairs_of pulled.moved_list;
+      writable = rw (writable-moved vs pulled.moved_list in_order) passed.writable;
       reads = ReadsPairs-sorted f keys values levels before left after us vs pulled.moved_list long read passed.reads pulled.moved ordered;
       depth_is = (pairs_sorted f keys values deep us vs pulled.moved_list read.spell passed.reads.spell read.valid passed.reads.valid (omega (arith, depth-texts us vs many, passed.depth_is)) passed.depth_is many pulled.moved ordered).deep;
       within = passed.within;

@@ -1,8 +1,9 @@
 -- What is known of the objects of a file while it is validated.
-use Rattle.std.specs.Prelude.{◌≡◌, ◌≢◌, ℕ, ◌*◌, ◌≤◌, List, length, slice_index_or, ⊤}
+use Rattle.std.specs.Prelude.{◌≡◌, ◌≢◌, ℕ, ◌*◌, ◌≤◌, Bool, true, List, length, slice_index_or, ⊤}
 use Rattle.std.specs.List.{Contains}
 use Rattle.plist_value.specs.Plist.{Plist, scalar, text, AreUnits, IsPlist}
 use Rattle.plist_value.specs.Limits.{nodes, depth, payload}
+use Rattle.plist_value.specs.Writable.{is_writable}
 use Rattle.plist_object.specs.Spelled.{Spells}
 use Rattle.plist_binary.specs.declared.memos.Memo.{Memo}
 use Rattle.plist_binary.specs.declared.memos.State.{State}
@@ -45,6 +46,22 @@ pub record AreStates (f path : List ℕ) (states : List State) : Type 0 where
 pub record AreStatesBut (f path : List ℕ) (j : ℕ) (states : List State) : Type 0 where
   pub each : (i : ℕ) → i ≢ j → IsState f path i (state_of states i)
   pub opened : (i : ℕ) → i ≢ j → Contains path i → state_of states i ≡ Open
+
+-- the object was visited
+abbrev pub IsVisited : State → Type 0
+IsVisited Unseen = ⊥
+IsVisited Open = ⊥
+IsVisited (Passed deep n size) = ⊤
+IsVisited (Key size) = ⊤
+
+-- the value that the object encodes is writable
+abbrev pub HasText : List ℕ → ℕ → Type 0
+HasText f i = (v : Plist) → IsPlist v → Spells f i v → is_writable v ≡ true
+
+-- the values of all visited objects are writable, if so said
+abbrev pub HaveTexts : List ℕ → List State → Bool → Type 0
+HaveTexts f states writable =
+    writable ≡ true → (i : ℕ) → IsVisited (state_of states i) → HasText f i
 
 -- the object has this state now, and all others have their old ones
 pub record IsMarked (before : List State) (object : ℕ) (state : State)

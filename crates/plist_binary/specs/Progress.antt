@@ -2,7 +2,7 @@
 use Rattle.std.specs.Prelude.{ℕ, List}
 use Rattle.plist_object.specs.KeyOrder.{IsReady}
 use Rattle.plist_binary.specs.declared.progress.Progress.{Progress}
-use Rattle.plist_binary.specs.Memos.{AreStates, AreStatesBut}
+use Rattle.plist_binary.specs.Memos.{AreStates, AreStatesBut, HaveTexts}
 use Rattle.plist_binary.specs.Passing.{IsWithinLimits}
 use Rattle.plist_binary.specs.Recalls.{IsKnownLast}
 
@@ -10,6 +10,7 @@ use Rattle.plist_binary.specs.Recalls.{IsKnownLast}
 -- and at most the limits are left
 pub record IsProgress (f path : List ℕ) (progress : Progress) : Type 0 where
   pub states : AreStates f path progress.states.items
+  pub texts : HaveTexts f progress.states.items progress.writable
   pub last : IsKnownLast f progress.last
   pub ready : IsReady f progress.order
   pub within : IsWithinLimits progress.left
@@ -17,6 +18,7 @@ pub record IsProgress (f path : List ℕ) (progress : Progress) : Type 0 where
 -- like `IsProgress`, except for what is known of the object
 pub record IsProgressBut (f path : List ℕ) (object : ℕ) (progress : Progress) : Type 0 where
   pub states : AreStatesBut f path object progress.states.items
+  pub texts : HaveTexts f progress.states.items progress.writable
   pub last : IsKnownLast f progress.last
   pub ready : IsReady f progress.order
   pub within : IsWithinLimits progress.left

@@ -2,19 +2,16 @@
 //! value.
 ghost use Rattle.std.specs.Prelude.{◌≡◌, ◌≢◌, IfOk, IfErr, OnOk};
 ghost use Rattle.plist_value.specs.Plist.{Plist};
-ghost use Rattle.plist_object.specs.Layout.{IsLaid, trailer_of};
+ghost use Rattle.plist_value.specs.Writable.{is_writable};
+ghost use Rattle.plist_object.specs.KeyOrder.{IsReady};
 ghost use Rattle.plist_object.specs.Spelled.{IsBinary};
 ghost use Rattle.plist_object.specs.Views.{octets_of};
 ghost use Rattle.plist_binary.specs.Faults.{Stands};
-ghost use Rattle.plist_binary.specs.Budgets.{limits};
-ghost use Rattle.plist_binary.specs.Passing.{PassesTop};
-ghost use Rattle.plist_binary.specs.Readings.{Refuses};
 
 use crate::BinaryFault;
 use crate::visiting::Visitor;
 use crate::walking::Walker;
-use plist_object::BinFile;
-use plist_value::MAX_DEPTH;
+use plist_object::{BinFile, JudgedFile};
 use std::alloc::Global;
 
 /// Validates a binary property list: returns the fault that `read` would return, without building
@@ -47,30 +44,28 @@ pub fn judge(alloc: Global, octets: &[u8]) -> Result<(), BinaryFault>
     }
 }
 
-/// Validates like [`judge`] and returns the file, so that its layout need not be read again.
+/// Validates like [`judge`] and returns the file with what was found: its layout need not be read
+/// again, nor the keys be sorted again that were sorted last.
 ///
 /// # Errors
 ///
 /// Fails like [`judge`].
-pub fn judge_file(alloc: Global, octets: &[u8]) -> Result<BinFile<'_>, BinaryFault>
-    ensures file { IfOk result (λ file. octets_of file ≡ octets.entry.now) }
+pub fn judge_file(alloc: Global, octets: &[u8]) -> Result<JudgedFile<'_>, BinaryFault>
+    ensures file { IfOk result (λ judged. octets_of judged.file ≡ octets.entry.now) }
     ensures ok { OnOk result ((v : Plist) × IsBinary octets.entry.now v) }
+    ensures ready { IfOk result (λ judged. IsReady octets.entry.now judged.order) }
+    ensures writable { IfOk result (λ judged. (v : Plist) → IsBinary octets.entry.now v
+        → is_writable v ≡ judged.writable) }
     ensures refused { IfErr result (λ fault. fault ≢ BinaryFault.OutOfMemory → (v : Plist) →
         IsBinary octets.entry.now v → ⊥) }
     ensures stands { IfErr result (Stands octets.entry.now) }
 {
     let file = BinFile::of(octets)?;
-    judge_top(alloc, file)?;
-    Ok(file)
-}
-
-// Validates the top object of the file.
-pub(crate) fn judge_top(alloc: Global, file: BinFile) -> Result<(), BinaryFault>
-    requires { IsLaid (octets_of file) }
-    ensures passed { OnOk result (PassesTop (octets_of file.entry)) }
-    ensures refused { IfErr result (Refuses (octets_of file.entry)
-        (trailer_of (octets_of file.entry)).top MAX_DEPTH limits) }
-{
     let visitor = Visitor { file };
-    Walker { alloc, visitor }.top()
+    let known = Walker { alloc, visitor }.top()?;
+    Ok(JudgedFile {
+        file,
+        order: known.order,
+        writable: known.writable,
+    })
 }

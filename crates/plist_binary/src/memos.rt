@@ -1,8 +1,8 @@
 //! What is known of the objects of a file while it is validated.
-ghost use Rattle.std.specs.Prelude.{◌≡◌, ◌+◌, ◌<◌, ◌≤◌, ℕ, List, IfSome, OnOk};
+ghost use Rattle.std.specs.Prelude.{◌≡◌, ◌+◌, ◌<◌, ◌≤◌, ℕ, List, IfSome, OnSome, OnOk};
 ghost use Rattle.plist_value.specs.declared.TheConstants.{MAX_NODES, MAX_DEPTH, MAX_PAYLOAD};
 ghost use Rattle.plist_value.specs.Budget.{Spends};
-ghost use Rattle.plist_binary.specs.Memos.{IsMarked, IsMemo, IsState, state_of};
+ghost use Rattle.plist_binary.specs.Memos.{IsMarked, IsMemo, IsState, IsVisited, state_of};
 ghost use Rattle.plist_binary.specs.declared.memos.State.TheVariants.{Key, Passed};
 
 use plist_value::Budget;
@@ -39,8 +39,9 @@ pub(crate) enum State {
 impl State {
     // Returns what the value of the object takes of the limits, if it was visited.
     pub(crate) fn memo(self) -> Option<Memo>
-        ensures { IfSome result (λ memo. (f path : List ℕ) (i : ℕ) → IsState f path i self
+        ensures memo { IfSome result (λ memo. (f path : List ℕ) (i : ℕ) → IsState f path i self
             → IsMemo f i memo) }
+        ensures visited { OnSome result (IsVisited self) }
     {
         match self {
             State::Unseen => None,

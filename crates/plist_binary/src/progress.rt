@@ -1,5 +1,5 @@
 //! The progress of a walk.
-ghost use Rattle.std.specs.Prelude.{◌≡◌, ℕ, List, [], IfSome};
+ghost use Rattle.std.specs.Prelude.{◌≡◌, ℕ, true, List, [], IfSome};
 ghost use Rattle.plist_binary.specs.Memos.{AreStates};
 ghost use Rattle.plist_binary.specs.Budgets.{limits};
 ghost use Rattle.plist_binary.specs.Passing.{Passes};
@@ -19,12 +19,15 @@ pub(crate) struct Progress<'a> {
     pub(crate) last: Option<LastKeys<'a>>,
     pub(crate) order: KeyOrder<'a>,
     pub(crate) left: Budget,
+    // Whether all scalars so far are strings or data.
+    pub(crate) writable: bool,
 }
 
 impl<'a> Progress<'a> {
     // Creates the state before the walk: nothing is known, and all of the limits is left.
     pub(crate) fn none(alloc: Global, file: &BinFile<'a>) -> Progress<'a>
         ensures left { result.left ≡ limits }
+        ensures writable { result.writable ≡ true }
         ensures progress { (f : List ℕ) → IsProgress f [] result }
     {
         Progress {
@@ -32,14 +35,16 @@ impl<'a> Progress<'a> {
             last: None,
             order: KeyOrder::new(alloc, file),
             left: Budget::whole(),
+            writable: true,
         }
     }
 
     // Returns the depth of an object visited before and the budget left after it, or `None` if it
     // is not known or does not fit.
     pub(crate) fn recall(&self, object: u64, levels: u64) -> Option<(u64, Budget)>
-        ensures { IfSome result (λ known. (f path : List ℕ) → AreStates f path self.now.states.items
-            → Passes f object levels self.now.left known.0 known.1) }
+        ensures { IfSome result (λ known. (f path : List ℕ) → IsProgress f path self.now
+            → Passes f object levels self.now.left known.0 known.1
+            self.now.writable self.now.writable) }
     {
         let memo = state_at(&self.states, object).memo()?;
         let deep = u64::from(memo.depth);

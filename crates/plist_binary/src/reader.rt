@@ -7,8 +7,7 @@ ghost use Rattle.plist_binary.specs.Faults.{Stands};
 
 use crate::BinaryFault;
 use crate::building::Builder;
-use crate::judging::judge_top;
-use plist_object::BinFile;
+use crate::judging::judge_file;
 use plist_value::{MAX_DEPTH, Value};
 use std::alloc::Global;
 
@@ -34,7 +33,7 @@ pub fn read(alloc: Global, octets: &[u8]) -> Result<Value, BinaryFault>
         IsBinary octets.now v → ⊥) }
     ensures stands { IfErr result (Stands octets.now) }
 {
-    let file = BinFile::of(octets)?;
-    judge_top(alloc, file)?;
+    let judged = judge_file(alloc, octets)?;
+    let file = judged.file;
     Ok(Builder { alloc, file }.value(file.top(), MAX_DEPTH)?)
 }

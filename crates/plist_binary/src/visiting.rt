@@ -56,6 +56,7 @@ impl<'a> Visitor<'a> {
             levels progress.old.left) }
         ensures progress { OnOk result (IsProgress (octets_of self.now.file)
             (table ∷ containers_of before.now) progress.new) }
+        ensures writable { OnOk result (progress.new.writable ≡ progress.old.writable) }
     {
         if let Some(rest) = progress.recall_key(object, levels) {
             progress.left = rest;
@@ -111,6 +112,7 @@ impl<'a> Visitor<'a> {
             levels progress.old.left) }
         ensures progress { OnOk result (IsProgress (octets_of self.now.file)
             (containers_of path.now) progress.new) }
+        ensures writable { OnOk result (progress.new.writable ≡ progress.old.writable) }
     {
         self.refuse_cycle(progress, path, object, levels)?;
         take_node(&mut progress.left, object)?;

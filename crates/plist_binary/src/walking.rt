@@ -1,6 +1,10 @@
 //! The traversal of the objects of a file.
-ghost use Rattle.std.specs.Prelude.{◌≡◌, ◌+◌, ◌<◌, ◌∷◌, ℕ, List, length, max, IfOk, IfErr, OnOk};
+ghost use Rattle.std.specs.Prelude.{◌≡◌, ◌+◌, ◌<◌, ◌&&◌, ◌∷◌, ℕ, List, length, max};
+ghost use Rattle.std.specs.Prelude.{IfOk, IfErr, OnOk};
 ghost use Rattle.std.specs.List.{Contains};
+ghost use Rattle.plist_value.specs.Scalars.{content_of};
+ghost use Rattle.plist_value.specs.Writable.{is_writable_scalar};
+ghost use Rattle.plist_object.specs.KeyOrder.{IsReady};
 ghost use Rattle.plist_object.specs.Layout.{trailer_of};
 ghost use Rattle.plist_object.specs.Views.{numbers_of};
 ghost use Rattle.plist_binary.specs.Begins.{AreNext, IsBegun, IsEntered};
@@ -19,10 +23,10 @@ use crate::path::Path;
 use crate::progress::Progress;
 use crate::visiting::{Visitor, take_payload};
 use plist_object::{Object, Refs};
-use plist_value::MAX_DEPTH;
+use plist_value::{MAX_DEPTH, ScalarRef};
 use std::alloc::Global;
 
-// Traverses the objects of a file. The visitor reads each of them.
+// A depth-first walk over the objects of a file, each of which the visitor decodes.
 #[derive(Clone, Copy)]
 pub(crate) struct Walker<'a> {
     pub(crate) alloc: Global,
@@ -32,16 +36,17 @@ pub(crate) struct Walker<'a> {
 impl<'a> Walker<'a> {
     ghost use Rattle.plist_binary.specs.Walkers.{walked};
 
-    // Validates the top object within the limits.
-    pub(crate) fn top(&self) -> Result<(), BinaryFault>
-        ensures passed { OnOk result (PassesTop (walked self.now)) }
+    // Validates the top object within the limits, and returns what is known then.
+    pub(crate) fn top(&self) -> Result<Progress<'a>, BinaryFault>
+        ensures passed { IfOk result (λ known. PassesTop (walked self.now) known.writable) }
+        ensures ready { IfOk result (λ known. IsReady (walked self.now) known.order) }
         ensures refused { IfErr result (Refuses (walked self.now) (trailer_of (walked self.now)).top
             MAX_DEPTH limits) }
     {
         let mut progress = Progress::none(self.alloc, &self.visitor.file);
         let top = self.visitor.file.top();
         self.pass(&mut progress, &Path::Above, top, MAX_DEPTH)?;
-        Ok(())
+        Ok(progress)
     }
 
     // Validates the object at the end of the path and returns the depth of its value. `levels` is
@@ -61,7 +66,8 @@ impl<'a> Walker<'a> {
         requires depth { length (containers_of path.now) + levels ≡ MAX_DEPTH }
         requires progress { IsProgress (walked self.now) (containers_of path.now) progress.old }
         ensures passed { IfOk result (λ deep. Passes (walked self.now) object levels
-            progress.old.left deep progress.new.left) }
+            progress.old.left deep progress.new.left
+            progress.old.writable progress.new.writable) }
         ensures refused { IfErr result (Refuses (walked self.now) object levels progress.old.left) }
         ensures progress { OnOk result (IsProgress (walked self.now) (containers_of path.now)
             progress.new) }
@@ -89,7 +95,8 @@ impl<'a> Walker<'a> {
         requires depth { length (containers_of path.now) + levels ≡ MAX_DEPTH }
         requires progress { IsProgress (walked self.now) (containers_of path.now) progress.old }
         ensures passed { IfOk result (λ deep. Passes (walked self.now) object levels
-            progress.old.left deep progress.new.left) }
+            progress.old.left deep progress.new.left
+            progress.old.writable progress.new.writable) }
         ensures refused { IfErr result (Refuses (walked self.now) object levels progress.old.left) }
         ensures progress { OnOk result (IsProgress (walked self.now) (containers_of path.now)
             progress.new) }
@@ -118,7 +125,8 @@ impl<'a> Walker<'a> {
         requires depth { length (containers_of path.now) + levels ≡ MAX_DEPTH }
         requires progress { IsProgress (walked self.now) (containers_of path.now) progress.old }
         ensures passed { IfOk result (λ deep. Passes (walked self.now) object levels
-            progress.old.left deep progress.new.left) }
+            progress.old.left deep progress.new.left
+            progress.old.writable progress.new.writable) }
         ensures refused { IfErr result (Refuses (walked self.now) object levels progress.old.left) }
         ensures new { OnOk result (¬ Contains (containers_of path.now) object) }
         ensures progress { OnOk result (IsProgressBut (walked self.now) (containers_of path.now)
@@ -128,6 +136,7 @@ impl<'a> Walker<'a> {
         match self.visitor.enter(progress, path, object, levels)? {
             Object::Scalar(scalar) => {
                 take_payload(&mut progress.left, object, scalar)?;
+                progress.writable = are_writable(progress.writable, &scalar);
                 Ok(1)
             }
             Object::List(items) => {
@@ -160,7 +169,8 @@ impl<'a> Walker<'a> {
         requires progress { IsProgress (walked self.now) (container ∷ containers_of before.now)
             progress.old }
         ensures passed { IfOk result (λ deep. PassesItems (walked self.now) (numbers_of refs.entry)
-            levels progress.old.left deep progress.new.left) }
+            levels progress.old.left deep progress.new.left
+            progress.old.writable progress.new.writable) }
         ensures refused { IfErr result (RefusesItems (walked self.now) (numbers_of refs.entry)
             levels progress.old.left) }
         ensures progress { OnOk result (IsProgress (walked self.now)
@@ -198,6 +208,7 @@ impl<'a> Walker<'a> {
             levels progress.old.left) }
         ensures progress { OnOk result (IsProgress (walked self.now)
             (table ∷ containers_of before.now) progress.new) }
+        ensures writable { OnOk result (progress.new.writable ≡ progress.old.writable) }
     {
         if let Some(rest) = recall_keys(&progress.last, &refs, levels, progress.left) {
             progress.left = rest;
@@ -229,6 +240,7 @@ impl<'a> Walker<'a> {
             levels progress.old.left) }
         ensures progress { OnOk result (IsProgress (walked self.now)
             (table ∷ containers_of before.now) progress.new) }
+        ensures writable { OnOk result (progress.new.writable ≡ progress.old.writable) }
     {
         let whole = progress.left.payload;
         self.keys(&mut *progress, table, before, refs, levels)?;
@@ -261,6 +273,7 @@ impl<'a> Walker<'a> {
             progress.old.left) }
         ensures progress { OnOk result (IsProgress (walked self.now)
             (table ∷ containers_of before.now) progress.new) }
+        ensures writable { OnOk result (progress.new.writable ≡ progress.old.writable) }
     {
         for i in 0..refs.len() {
             let object = self.visitor.referred(table, refs.get(i))?;
@@ -269,6 +282,13 @@ impl<'a> Walker<'a> {
         }
         Ok(())
     }
+}
+
+// Returns whether the scalars so far and this one are strings or data.
+fn are_writable(so_far: bool, scalar: &ScalarRef) -> bool
+    ensures { result ≡ (so_far && is_writable_scalar (content_of scalar.now)) }
+{
+    so_far && matches!(scalar, ScalarRef::Text(_) | ScalarRef::Bytes(_))
 }
 
 // Returns the greater of two depths.

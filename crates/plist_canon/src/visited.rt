@@ -20,7 +20,7 @@ pub(crate) struct Visited<'a> {
 }
 
 impl<'a> Visited<'a> {
-    /// Creates the state before object 0.
+    /// Returns the state in which no object has been visited.
     pub(crate) fn new<S: BuildHasher>(
         alloc: Global,
         hasher: &S,

@@ -10,7 +10,7 @@ ghost use Rattle.plist_engine.specs.Tree.{preorder};
 use crate::{Sink, WriteFault};
 use plist_draft::{Draft, put_value};
 use plist_engine::{canonical_of, write_canonical_of};
-use plist_object::BinFile;
+use plist_object::{BinFile, JudgedFile};
 use plist_value::{FixedHasher, Value};
 use std::alloc::{AllocError, Global};
 use std::hash::BuildHasher;
@@ -50,7 +50,7 @@ pub fn canonical_with_hasher<S: BuildHasher + Copy>(
     let Ok(file) = BinFile::of(&octets) else {
         unreachable!();
     };
-    canonical_of(alloc, hasher, &file)
+    canonical_of(alloc, hasher, JudgedFile::draft(alloc, file, false))
 }
 
 /// Sends the canonical file of a value within the limits, object by object, and returns its length
@@ -101,7 +101,7 @@ pub fn write_canonical_with_hasher<S: BuildHasher + Copy, W: Sink>(
     let Ok(file) = BinFile::of(&octets) else {
         unreachable!();
     };
-    write_canonical_of(alloc, hasher, &file, out)
+    write_canonical_of(alloc, hasher, JudgedFile::draft(alloc, file, false), out)
 }
 
 // Returns a binary file of the value, with an object for each use of a scalar.

@@ -1,6 +1,6 @@
 -- Storing in a file that is created at its first write.
 use Rattle.std.proofs.Common.{ap, arith, refl, subst, sym, inl, inr, Err, List, None, Ok, Option, Result, Some, [], ◌∷◌, ◌++◌, ℕ, ◌≡◌, ◌∙◌, ◌⊎◌}
-use Rattle.std.specs.Prelude.{◌≢◌, ◌<◌, ◌≤◌, Bool, IfSome, cond, false, length, option_map, take, true}
+use Rattle.std.specs.Prelude.{◌≢◌, ◌<◌, ◌≤◌, Bool, IfErr, IfOk, IfSome, cond, false, length, option_map, take, true}
 use Rattle.std.specs.Str.{bytes_eq}
 use Rattle.std.proofs.lemmas.List.{length-take-le}
 use Rattle.std.proofs.lemmas.Slice.Eq.{bytes_eq-Decides}
@@ -16,12 +16,15 @@ use Rattle.plist_forms.specs.declared.faults.Fault.{Fault}
 use Rattle.plist_forms.specs.declared.faults.Fault.TheVariants.{OutOfMemory}
 use Rattle.plist_forms.specs.declared.forms.Form.{Form}
 use Rattle.plist_forms.specs.declared.forms.Form.TheVariants.{Binary1, OpenStep}
-use Rattle.ostep_text.specs.Written.{is_writable, written}
-use Rattle.plist_convert.specs.Files.{CountsFailure, FileName, Files, IsStored, SameFiles, Stores, Turns}
-use Rattle.plist_convert.specs.Opens.{Creates, HasWritten, MayEmpty, Puts, Settles, held_by, is_begun, written_of}
+use Rattle.plist_value.specs.Writable.{is_writable}
+use Rattle.ostep_text.specs.Written.{written}
+use Rattle.plist_convert.specs.Files.{CountsFailure, FileName, Files, IsStored, SameFiles, Stores}
+use Rattle.plist_convert.specs.FileDisk.{IsFullAt}
+use Rattle.plist_convert.specs.Opens.{Creates, HasWritten, IsFilled, IsWithin, MayEmpty, Puts, Settles, held_by, is_begun, taken_by, written_of}
 use Rattle.plist_convert.specs.declared.opens.Created.{Created}
 use Rattle.plist_convert.proofs.FilesBefore.{same_trans}
 use Rattle.plist_convert.proofs.Handed.{handed_over}
+use Rattle.plist_convert.proofs.Limits.{fits, is_full}
 use Rattle.plist_convert.proofs.Stored.{none_sent, sent_count, stored_taken, unstored, wanting}
 
 -- no output is empty
@@ -123,6 +126,25 @@ created writes form octets path place files first now seen start made x failures
   emptied = rw (there, same, ends) may;
   untouched = λ uncreated failed. rw (same, ends) (untouched (none_made _ made uncreated) failed);
 }
+
+-- what is sent to such a file is no longer than its maximum size
+pub created_fits : {W : Type 0} (writes : W → Option (List ℕ)) (form : Form) (octets : List ℕ) (files first : Option Files)
+    (limit place x failures : ℕ) (start made : Option (Created W)) (result : Result ℕ Fault)
+    → files ≡ first → limit ≡ place → start ≡ None → x ≡ 0
+    → Writes form octets (taken_by writes first start) (taken_by writes first made) x failures result
+    → IsWithin place (taken_by writes first made) → IfOk result (λ count. IfSome files (λ _. count ≤ limit))
+created_fits writes form octets files first limit place x failures start made result same is none zero sends within =
+    rw (same, is) (fits form octets place failures first (option_map (written_of writes) made) result within (rw (none, zero) at sends))
+
+-- such a file fails only if it is full, unless memory ran out
+pub created_full : {W : Type 0} (writes : W → Option (List ℕ)) (form : Form) (octets : List ℕ) (files first : Option Files)
+    (limit place x failures : ℕ) (start made : Option (Created W)) (result : Result ℕ Fault)
+    → files ≡ first → limit ≡ place → start ≡ None → x ≡ 0
+    → Writes form octets (taken_by writes first start) (taken_by writes first made) x failures result
+    → IsWithin place (taken_by writes first made) → (0 < failures → IsFilled place (taken_by writes first made))
+    → IfErr result (λ fault. IfSome files (λ _. IsFullAt form octets limit fault))
+created_full writes form octets files first limit place x failures start made result same is none zero sends within full =
+    rw (same, is) (is_full form octets place failures first (option_map (written_of writes) made) result within full (rw (none, zero) at sends))
 
 -- what is sent to a file that was created
 kept : (form : Form) (octets : List ℕ) (files middle rest : Option Files) (before after : ℕ) (path : FileName) (contents : Option (List ℕ))

@@ -13,6 +13,6 @@ pub mod Parsed
 pub mod CommandRows
 pub mod Stored
 pub mod Handed
-pub mod Rooms
+pub mod Limits
 pub mod Opened
 pub mod Created

@@ -40,7 +40,7 @@ unfound files path failures old new to_come rest (Err _) reads none at_once take
 pub unopened_unfound : (files : Option Files) (path : FileName) (Failed : Type 0) (error : Error) (fault : Fault)
     → IsUnopened files path error → IsUnopenedAs error fault → IsUnfound files path Failed fault
 unopened_unfound files path Failed error fault missing (inl memory) = rw memory.1 refl
-unopened_unfound files path Failed error fault missing (inr other) = rw other.1 (inl (missing other.0))
+unopened_unfound files path Failed error fault missing (inr other) = rw other.1 (inl (missing.0 other.0))
 
 -- no read fails if the opener knows the files
 pub steady : {R : Type 0} (files : Option Files) (failures : R → ℕ) → IfSome files (λ _. (reader : R) → failures reader ≡ 0)

@@ -13,4 +13,3 @@ pub mod FileDisk
 pub mod Opens
 pub mod OneProof
 pub mod MemoryFiles
-pub mod MemoryDisk

@@ -1,6 +1,6 @@
 -- What opening, creating and keeping a file means, if the opener knows the files.
-use Rattle.std.specs.Prelude.{◌≡◌, ◌≢◌, ◌⊎◌, ℕ, ◌<◌, Bool, true, false, List, [], ◌∷◌, length, None}
-use Rattle.std.specs.Prelude.{Option, Some, Result, Err, IfSome}
+use Rattle.std.specs.Prelude.{◌≡◌, ◌≢◌, ◌⊎◌, ◌↔◌, ℕ, ◌<◌, ◌≤◌, Bool, true, false, List, [], ◌∷◌}
+use Rattle.std.specs.Prelude.{length, None, Option, Some, Result, Err, IfSome, option_map}
 use Rattle.std.specs.IoError.{error_kind}
 use Rattle.std.specs.declared.io.Error.{Error}
 use Rattle.std.specs.declared.io.ErrorKind.TheVariants as kind
@@ -19,9 +19,9 @@ abbrev pub ReadsAll : Option Files → FileName → Option (List ℕ) → Type 0
 ReadsAll files path to_come =
     IfSome files (λ at. (octets : List ℕ) × ((at path ≡ Some octets) × (to_come ≡ Some octets)))
 
--- why a file is not opened: there is none, or out of memory
+-- why a file is not opened: there is none, or else out of memory
 abbrev pub IsUnopened : Option Files → FileName → Error → Type 0
-IsUnopened files path error = error_kind error ≢ kind.OutOfMemory → Lacks files path
+IsUnopened files path error = error_kind error ≢ kind.OutOfMemory ↔ Lacks files path
 
 -- the refusal of a file that is not opened: 60 if out of memory, else 50
 abbrev pub IsUnopenedAs : Error → Fault → Type 0
@@ -36,6 +36,32 @@ HasWritten files contents octets = IfSome files (λ _. contents ≡ Some octets)
 -- the writer has written nothing
 abbrev pub IsNew : Option Files → Option (List ℕ) → Type 0
 IsNew files contents = HasWritten files contents []
+
+-- a file is not created or written because memory ran out, if the opener knows the files
+abbrev pub NeedsMemory : Option Files → Error → Type 0
+NeedsMemory files error = IfSome files (λ _. error_kind error ≡ kind.OutOfMemory)
+
+-- these bytes, if they are known, are no more than this
+abbrev pub IsWithin : ℕ → Option (List ℕ) → Type 0
+IsWithin limit contents = IfSome contents (λ octets. length octets ≤ limit)
+
+-- these bytes, if they are known, are so many or more
+abbrev pub IsFilled : ℕ → Option (List ℕ) → Type 0
+IsFilled limit contents = IfSome contents (λ octets. limit ≤ length octets)
+
+-- the writer has written no more than a file may have, if the opener knows the files
+abbrev pub StaysWithin : Option Files → ℕ → Option (List ℕ) → Type 0
+StaysWithin files limit contents = IfSome files (λ _. IsWithin limit contents)
+
+-- the writer has written all that a file may have, if the opener knows the files
+abbrev pub ReachesLimit : Option Files → ℕ → Option (List ℕ) → Type 0
+ReachesLimit files limit contents = IfSome files (λ _. IsFilled limit contents)
+
+-- why a file is not written, if the opener knows the files: it has the maximum size, or out of
+-- memory
+abbrev pub IsUnwritten : Option Files → ℕ → Option (List ℕ) → Error → Type 0
+IsUnwritten files limit contents error =
+    error_kind error ≢ kind.OutOfMemory → ReachesLimit files limit contents
 
 -- if the file at the path is not what it was, it is empty; every other file is what it was
 abbrev pub MayEmpty : FileName → Option Files → Option Files → Type 0
@@ -85,6 +111,11 @@ abbrev pub held_by : Option Files → Option (Option (List ℕ)) → Option (Lis
 held_by None contents = None
 held_by (Some at) None = Some []
 held_by (Some at) (Some contents) = contents
+
+-- the contents of such a file, by what its writer tells
+abbrev pub taken_by : {W : Type 0} → (W → Option (List ℕ)) → Option Files → Option (Created W)
+    → Option (List ℕ)
+taken_by contents files created = held_by files (option_map (written_of contents) created)
 
 -- the writer has written something, if there is one and the opener knows the files
 abbrev pub is_begun : Option Files → Option (Option (List ℕ)) → Bool

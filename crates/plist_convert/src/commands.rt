@@ -18,8 +18,10 @@ pub(crate) fn program<'a>(alloc: Global) -> Result<Command<'a>, AllocError>
 {
     let command = with_subcommand(top(alloc), convert(alloc))?;
     let command = with_subcommand(command, same(alloc))?;
-    let command = with_subcommand(command, lint(alloc))?;
-    let command = with_subcommand(command, check(alloc))?;
+    let lint = of_files(alloc, "lint", help::LINT_ABOUT, help::LINT_AFTER);
+    let command = with_subcommand(command, lint)?;
+    let check = of_files(alloc, "check", help::CHECK_ABOUT, help::CHECK_AFTER);
+    let command = with_subcommand(command, check)?;
     let command = with_subcommand(command, print(alloc))?;
     with_subcommand(command, explain(alloc))
 }
@@ -61,24 +63,16 @@ fn same<'a>(alloc: Global) -> Result<Command<'a>, AllocError>
         .arg(required(alloc, "B", "The other file"))
 }
 
-fn lint<'a>(alloc: Global) -> Result<Command<'a>, AllocError>
-    ensures { IfOk result (λ command. app_of command ≡ some_files (codes "lint")) }
+/// Returns a command with one file or more.
+fn of_files<'a>(
+    alloc: Global,
+    name: &'a str,
+    about: &'a str,
+    after: &'a str,
+) -> Result<Command<'a>, AllocError>
+    ensures { IfOk result (λ command. app_of command ≡ some_files name.entry.now) }
 {
-    described(alloc, "lint", help::LINT_ABOUT, help::LINT_AFTER).arg(several(
-        alloc,
-        "IN",
-        "The files to read",
-    ))
-}
-
-fn check<'a>(alloc: Global) -> Result<Command<'a>, AllocError>
-    ensures { IfOk result (λ command. app_of command ≡ some_files (codes "check")) }
-{
-    described(alloc, "check", help::CHECK_ABOUT, help::CHECK_AFTER).arg(several(
-        alloc,
-        "IN",
-        "The files to read",
-    ))
+    described(alloc, name, about, after).arg(several(alloc, "IN", "The files to read"))
 }
 
 fn print<'a>(alloc: Global) -> Result<Command<'a>, AllocError>

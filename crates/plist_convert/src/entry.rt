@@ -11,12 +11,13 @@ use crate::executing::{
 use crate::filtering::filter;
 use crate::host_disk::HostDisk;
 use crate::printing::explain;
+use crate::random_keys::random_state;
 use crate::reading::read_words;
 use crate::request::Request;
 use plist_devices::{ReaderSource, Sink, Source, Stream};
 use plist_value::FixedHasher;
 use std::alloc::Global;
-use std::hash::{BuildHasher, RandomState};
+use std::hash::BuildHasher;
 use std::io::{Read, Write};
 use std::random::RandomSource;
 use std::rt::Files;
@@ -45,9 +46,10 @@ pub fn run<R: Files, I: Read, O: Write>(
     run_last(rt, alloc, FixedHasher::new(), words, input, output)
 }
 
-/// Like [`run`], but hashes scalars with a [`RandomState`] that is created once, so that nobody can
-/// choose scalars that collide. Uses the fixed hasher if the system has no random bytes. The
-/// results are equal to those of [`run`]. `main` calls this function.
+/// Like [`run`], but hashes scalars with a [`RandomState`](std::hash::RandomState) that is created
+/// once, so that nobody can choose scalars that collide. Its keys are random bytes from the system,
+/// or from `/dev/urandom`; without either it uses the fixed hasher. The results are equal to those
+/// of [`run`]. `main` calls this function.
 pub fn run_to_end<R: Files + RandomSource, I: Read, O: Write>(
     rt: &R,
     alloc: Global,
@@ -58,7 +60,7 @@ pub fn run_to_end<R: Files + RandomSource, I: Read, O: Write>(
     ensures { IsHostRun (map (λ word. word.now) words.now) (I.remaining input.old)
         (O.contents output.old) (O.contents output.new) result }
 {
-    match RandomState::new(rt) {
+    match random_state(rt) {
         Ok(hasher) => run_last(rt, alloc, hasher, words, input, output),
         Err(_) => run_last(rt, alloc, FixedHasher::new(), words, input, output),
     }
@@ -85,8 +87,9 @@ fn run_last<H: BuildHasher + Copy, R: Files, I: Read, O: Write>(
 /// Runs the complete program on any disk and streams, like [`run`] on the files of the host.
 ///
 /// Scalars are hashed with the hasher of this builder. If somebody else chooses what is converted,
-/// compared or checked, pass a [`RandomState`]: scalars chosen to collide under [`FixedHasher`]
-/// then cost no more than others. The disk converts what it stores with a builder of its own.
+/// compared or checked, pass a [`RandomState`](std::hash::RandomState): scalars chosen to collide
+/// under [`FixedHasher`] then cost no more than others. The disk converts what it stores with a
+/// builder of its own.
 pub fn run_on<H: BuildHasher + Copy, D: Disk, S: Source, W: Sink>(
     alloc: Global,
     hasher: H,

@@ -1,7 +1,9 @@
 //! A disk with the files of an opener.
-ghost use Rattle.std.specs.Prelude.{◌≡◌, IfErr, IfOk, IfSome, OnErr, option_map};
+ghost use Rattle.std.specs.Prelude.{◌≡◌, ◌≤◌, false, IfErr, IfOk, IfSome, None, OnErr, OnOk};
+ghost use Rattle.std.specs.Prelude.{IsErrOf, option_map};
 ghost use Rattle.plist_forms.specs.Load.{octets_or};
-ghost use Rattle.plist_convert.specs.Files.{Holds, SameFiles};
+ghost use Rattle.plist_convert.specs.FileDisk.{IsFullAt, told};
+ghost use Rattle.plist_convert.specs.Files.{Holds, IsUnloaded, SameFiles, Stores};
 ghost use Rattle.plist_convert.specs.Opens.{CountsUnread, Creates, HasFailing, IsUnfound};
 ghost use Rattle.plist_convert.specs.Opens.{IsUnopenedAs, Settles, written_of};
 
@@ -15,7 +17,8 @@ use std::io;
 use std::io::ErrorKind;
 use std::marker::Brand;
 
-/// A disk with the files of an opener. It knows their contents if the opener does.
+/// A disk with the files of an opener. It knows their contents and their maximum size if the opener
+/// does: then 51 occurs only if an output is longer.
 ///
 /// Scalars of stored files are hashed with the hasher of this builder.
 #[derive(Drop)]
@@ -26,11 +29,12 @@ pub struct FileDisk<O, H> {
 }
 
 impl<O: Opens, H: BuildHasher + Copy> FileDisk<O, H> {
-    ghost use Rattle.plist_convert.specs.FileDisk.{failures_of, files_of};
+    ghost use Rattle.plist_convert.specs.FileDisk.{failures_of, files_of, limit_of};
 
     /// Returns a disk with the files of this opener.
     pub fn over(opener: O, hasher: H) -> FileDisk<O, H>
         ensures files { files_of O.files result ≡ O.files opener }
+        ensures limit { limit_of O.limit result ≡ O.limit opener }
         ensures failures { failures_of result ≡ 0 }
     {
         FileDisk {
@@ -42,13 +46,23 @@ impl<O: Opens, H: BuildHasher + Copy> FileDisk<O, H> {
 }
 
 impl<O: Steady, H: BuildHasher + Copy> Disk for FileDisk<O, H> {
-    ghost use Rattle.plist_convert.specs.FileDisk.{failures_of, files_of};
+    ghost use Rattle.plist_convert.specs.FileDisk.{failures_of, files_of, limit_of};
 
     ghost files = { files_of O.files };
 
     ghost failures = { failures_of };
 
-    fn load(&mut self, alloc: Global, path: &str) -> Result<Vec<u8>, Fault> {
+    fn load(&mut self, alloc: Global, path: &str) -> Result<Vec<u8>, Fault>
+        ensures kept { SameFiles (files_of O.files self.old) (files_of O.files self.new) }
+        ensures found { IfOk result (λ octets.
+            Holds (files_of O.files self.old) path.now octets.items) }
+        ensures unfailed { OnOk result (failures_of self.new ≡ failures_of self.old) }
+        ensures refused { IfErr result (IsUnloaded (files_of O.files self.old) path.now
+            (failures_of self.old) (failures_of self.new)) }
+        ensures missing { IfSome (files_of O.files self.old)
+            (λ at. at path.now ≡ None → IsErrOf result Fault.ReadFailed) }
+        ensures limit { limit_of O.limit self.new ≡ limit_of O.limit self.old }
+    {
         match self.load_unless(alloc, path, &[])? {
             Some(octets) => Ok(octets),
             None => Ok(Vec::new(alloc)),
@@ -60,7 +74,17 @@ impl<O: Steady, H: BuildHasher + Copy> Disk for FileDisk<O, H> {
         alloc: Global,
         path: &str,
         known: &[u8],
-    ) -> Result<Option<Vec<u8>>, Fault> {
+    ) -> Result<Option<Vec<u8>>, Fault>
+        ensures kept { SameFiles (files_of O.files self.old) (files_of O.files self.new) }
+        ensures found { IfOk result (λ found.
+            Holds (files_of O.files self.old) path.now (octets_or known.now found)) }
+        ensures unfailed { OnOk result (failures_of self.new ≡ failures_of self.old) }
+        ensures refused { IfErr result (IsUnloaded (files_of O.files self.old) path.now
+            (failures_of self.old) (failures_of self.new)) }
+        ensures missing { IfSome (files_of O.files self.old)
+            (λ at. at path.now ≡ None → IsErrOf result Fault.ReadFailed) }
+        ensures limit { limit_of O.limit self.new ≡ limit_of O.limit self.old }
+    {
         let found = octets_at(&self.opener, alloc, path, known);
         self.failures = failures_after_load(self.failures, &found);
         found
@@ -72,10 +96,21 @@ impl<O: Steady, H: BuildHasher + Copy> Disk for FileDisk<O, H> {
         path: &str,
         octets: Vec<u8>,
         form: Form,
-    ) -> Result<u64, Fault> {
+    ) -> Result<u64, Fault>
+        ensures stores { Stores form octets.items
+            (files_of O.files self.old) (files_of O.files self.new)
+            (failures_of self.old) (failures_of self.new) path.now result }
+        ensures limit { limit_of O.limit self.new ≡ limit_of O.limit self.old }
+
+        // A file never exceeds its maximum size, and the device fails only if an output does.
+        ensures fits { IfOk result (λ count.
+            IfSome (files_of O.files self.old) (λ _. count ≤ limit_of O.limit self.old)) }
+        ensures full { IfErr result (λ fault. IfSome (files_of O.files self.old)
+            (λ _. IsFullAt form octets.items (limit_of O.limit self.old) fault)) }
+    {
         let opener = &mut self.opener;
         let target = Target { path };
-        let (created, stored) = create::<O, H, Brand>(
+        let (created, sent, needs_memory) = create::<O, H, Brand>(
             opener,
             alloc,
             self.hasher,
@@ -84,6 +119,7 @@ impl<O: Steady, H: BuildHasher + Copy> Disk for FileDisk<O, H> {
             form,
         );
         settle(&mut self.opener, alloc, created)?;
+        let stored = tell(sent, needs_memory);
         self.failures = failures_after(self.failures, &stored);
         stored
     }
@@ -109,6 +145,8 @@ fn octets_at<O: Opens>(
         Holds (O.files opener.now) path.now (octets_or known.now found)) }
     ensures refused { IfErr result
         (IsUnfound (O.files opener.now) path.now (HasFailing O.Reader.failures)) }
+    ensures missing { IfSome (O.files opener.now)
+        (λ at. at path.now ≡ None → IsErrOf result Fault.ReadFailed) }
 {
     match opener.open(alloc, path) {
         Ok(reader) => {
@@ -140,7 +178,8 @@ fn failures_after_load(failures: u64, found: &Result<Option<Vec<u8>>, Fault>) ->
 }
 
 /// Converts the bytes to this form and writes the output to the file of the target, which is
-/// created at the first write. Returns the file if it was created. Fails like [`convert_octets`].
+/// created at the first write. Returns the file if it was created, the result of
+/// [`convert_octets`], and whether memory ran out for the file.
 fn create<'p, O: Opens, H: BuildHasher + Copy, K: Place>(
     opener: &mut O,
     alloc: Global,
@@ -148,24 +187,31 @@ fn create<'p, O: Opens, H: BuildHasher + Copy, K: Place>(
     target: Target<'p>,
     octets: Vec<u8>,
     form: Form,
-) -> (Option<Created<'p, O::Writer>>, Result<u64, Fault>)
+) -> (Option<Created<'p, O::Writer>>, Result<u64, Fault>, bool)
     requires path { target.path.now ≡ K.path }
     requires files { O.files opener.old ≡ K.files }
+    requires limit { O.limit opener.old ≡ K.limit }
     ensures placed { IfSome result.0 (λ created. created.path.now ≡ target.entry.path.now) }
     ensures creates { Creates form octets.items target.entry.path.now
         (O.files opener.old) (O.files opener.new)
         (option_map (written_of O.Writer.contents) result.0) result.1 }
+    ensures limit { O.limit opener.new ≡ O.limit opener.old }
+    ensures fits { IfOk result.1 (λ count.
+        IfSome (O.files opener.old) (λ _. count ≤ O.limit opener.old)) }
+    ensures full { result.2 ≡ false → IfErr result.1 (λ fault. IfSome (O.files opener.old)
+        (λ _. IsFullAt form octets.items (O.limit opener.old) fault)) }
 {
     let mut file: CreatedFile<O, K> = CreatedFile::new(alloc, opener, target.path);
     let sent = convert_octets(alloc, hasher, octets, &mut file, form);
     let CreatedFile {
         opener: kept,
         created,
+        needs_memory,
         ..
     } = file;
     // This has no effect. The proof takes from it what `opener` is in the end.
     let _ = &*kept;
-    (created, sent)
+    (created, sent, needs_memory)
 }
 
 /// Closes the file, if it was created. If out of memory for that, no file changes.
@@ -177,9 +223,20 @@ fn settle<O: Opens>(
     ensures settles { IfOk result (λ _.
         Settles O.Writer.contents created.entry (O.files opener.old) (O.files opener.new)) }
     ensures unchanged { OnErr result (SameFiles (O.files opener.old) (O.files opener.new)) }
+    ensures limit { O.limit opener.new ≡ O.limit opener.old }
 {
     match created {
         Some(created) => opener.keep(alloc, created),
         None => Ok(()),
+    }
+}
+
+/// Returns the result of a store: if memory ran out for the file, the device has not failed.
+fn tell(sent: Result<u64, Fault>, needs_memory: bool) -> Result<u64, Fault>
+    ensures { result ≡ told needs_memory sent }
+{
+    match sent {
+        Err(Fault::WriteFailed { sent }) if needs_memory => Err(Fault::OutOfMemory { sent }),
+        _ => sent,
     }
 }

@@ -9,7 +9,7 @@ use plist_devices::ReaderSource;
 use plist_value::FixedHasher;
 use std::alloc::{AllocError, Global};
 use std::hash::BuildHasher;
-use std::io::ErrorKind;
+use std::io::{ErrorKind, Write};
 use std::rt::Files;
 use std::{fs, io};
 
@@ -31,6 +31,8 @@ impl<'a, R: Files> Opens for HostFiles<'a, R> {
 
     ghost files = { λ _. None };
 
+    ghost limit = { λ _. 0 };
+
     fn open(&self, _alloc: Global, path: &str) -> io::Result<ReaderSource<R::File>> {
         match fs::open(self.rt, path) {
             Ok(file) => Ok(ReaderSource::new(file)),
@@ -42,6 +44,10 @@ impl<'a, R: Files> Opens for HostFiles<'a, R> {
     fn create<'p>(&mut self, _alloc: Global, path: &'p str) -> io::Result<Created<'p, R::File>> {
         let writer = fs::create(self.rt, path)?;
         Ok(Created { path, writer })
+    }
+
+    fn append(&self, writer: &mut R::File, piece: &[u8]) -> io::Result<usize> {
+        writer.write(piece)
     }
 
     fn keep(&mut self, _alloc: Global, created: Created<'_, R::File>) -> Result<(), AllocError>

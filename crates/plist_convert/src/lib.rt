@@ -13,11 +13,10 @@ pub mod file_disk;
 mod filtering;
 mod help;
 pub mod host_disk;
-pub mod memory_disk;
-mod memory_file;
 pub mod memory_files;
 pub mod opens;
 mod printing;
+mod random_keys;
 mod reading;
 mod request;
 mod verdicts;
@@ -26,7 +25,6 @@ pub use disks::Disk;
 pub use entry::{run, run_on, run_to_end};
 pub use file_disk::FileDisk;
 pub use host_disk::HostDisk;
-pub use memory_disk::MemoryDisk;
 pub use memory_files::MemoryFiles;
 pub use plist_devices::{
     DeviceFault, ListSink, ListSource, ReaderSource, Sink, Source, Stream, WriterSink, put_all,

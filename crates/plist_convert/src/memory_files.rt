@@ -1,5 +1,5 @@
 //! Files in memory.
-ghost use Rattle.std.specs.Prelude.{◌≡◌, ℕ, IfErr, IfOk, OnErr, None, Some, option_map};
+ghost use Rattle.std.specs.Prelude.{◌≡◌, ◌^◌, ◌-◌, ℕ, IfErr, IfOk, OnErr, None, Some, option_map};
 ghost use Rattle.std.specs.IoError.{error_kind};
 ghost use Rattle.plist_convert.specs.Files.{FileName, SameBeside, SameFiles};
 ghost use Rattle.plist_convert.specs.Opens.{IsUnopened, Puts, ReadsAll};
@@ -12,23 +12,35 @@ use std::io;
 use std::io::{Cursor, ErrorKind, Read};
 
 /// Files in memory, by path, for tests and for programs whose property lists are not in files of
-/// the host. The contents of each path are known.
+/// the host. The contents of each path are known, and what is written to it has at most `limit`
+/// bytes.
 ///
-/// A [`FileDisk`](crate::file_disk::FileDisk) over them is a disk whose files have no maximum size.
+/// A [`FileDisk`](crate::file_disk::FileDisk) over them is a disk.
 #[derive(Drop)]
 pub struct MemoryFiles {
     files: BTreeMap<String, Vec<u8>>,
+    limit: usize,
 }
 
 impl MemoryFiles {
-    ghost use Rattle.plist_convert.specs.MemoryFiles.{bytes_at};
+    ghost use Rattle.plist_convert.specs.MemoryFiles.{bytes_at, limit_of};
 
-    /// Returns an opener without files.
+    /// Returns an opener without files, which take any number of bytes.
     pub fn new(alloc: Global) -> MemoryFiles
-        ensures { (path : FileName) → bytes_at result path ≡ None }
+        ensures empty { (path : FileName) → bytes_at result path ≡ None }
+        ensures limit { limit_of result ≡ 2 ^ 64 - 1 }
+    {
+        MemoryFiles::with_limit(alloc, usize::MAX)
+    }
+
+    /// Returns an opener without files, which take up to `limit` bytes each.
+    pub fn with_limit(alloc: Global, limit: usize) -> MemoryFiles
+        ensures empty { (path : FileName) → bytes_at result path ≡ None }
+        ensures limit { limit_of result ≡ limit }
     {
         MemoryFiles {
             files: BTreeMap::new(alloc),
+            limit,
         }
     }
 
@@ -42,6 +54,7 @@ impl MemoryFiles {
         ensures others { SameBeside path.now (Some (bytes_at self.old)) (Some (bytes_at self.new)) }
         ensures unchanged { OnErr result ((other : FileName)
             → bytes_at self.new other ≡ bytes_at self.old other) }
+        ensures limit { limit_of self.new ≡ limit_of self.old }
     {
         let key = String::from_str(alloc, path)?;
         self.files.insert(key, octets)?;
@@ -58,13 +71,15 @@ impl MemoryFiles {
 
 impl Opens for MemoryFiles {
     ghost use Rattle.std.specs.Io.Cursor.{cursor_remaining};
-    ghost use Rattle.plist_convert.specs.MemoryFiles.{bytes_at};
+    ghost use Rattle.plist_convert.specs.MemoryFiles.{bytes_at, limit_of};
 
     type Reader = MemoryReader;
 
     type Writer = Vec<u8>;
 
     ghost files = { λ opener. Some (bytes_at opener) };
+
+    ghost limit = { limit_of };
 
     fn open(&self, alloc: Global, path: &str) -> io::Result<MemoryReader>
         ensures all { IfOk result (λ reader. ReadsAll (Some (bytes_at self.now)) path.now
@@ -91,12 +106,20 @@ impl Opens for MemoryFiles {
         })
     }
 
+    fn append(&self, writer: &mut Vec<u8>, piece: &[u8]) -> io::Result<usize> {
+        let left = self.limit.saturating_sub(writer.len());
+        let taken = left.min(piece.len());
+        writer.extend_from_slice(&piece[..taken])?;
+        Ok(taken)
+    }
+
     fn keep(&mut self, alloc: Global, created: Created<'_, Vec<u8>>) -> Result<(), AllocError>
         ensures kept { IfOk result (λ _.
             Puts created.entry.path.now (Some created.entry.writer.items)
             (Some (bytes_at self.old)) (Some (bytes_at self.new))) }
         ensures unchanged { OnErr result
             (SameFiles (Some (bytes_at self.old)) (Some (bytes_at self.new))) }
+        ensures limit { limit_of self.new ≡ limit_of self.old }
     {
         self.put(alloc, created.path, created.writer)
     }

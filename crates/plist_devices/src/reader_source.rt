@@ -3,10 +3,11 @@ ghost use Rattle.std.specs.Prelude.{◌≡◌, ◌<◌};
 ghost use Rattle.plist_devices.specs.Count.{count_limit};
 ghost use Rattle.plist_devices.specs.Source.{IsTake};
 
-use crate::{Device, DeviceFault, Source};
+use crate::{DeviceFault, ReadDevice, Source};
 use std::io::Read;
 
-/// A source over a reader of the standard library. A take fails if the read fails.
+/// Adapts a reader of the standard library to a [`Source`]. Each take is one read, and fails if the
+/// read fails.
 ///
 /// The remaining bytes are known if the reader knows them, as one over memory does.
 #[derive(Debug, Drop)]
@@ -30,7 +31,7 @@ impl<R: Read> ReaderSource<R> {
     }
 }
 
-impl<D: Device> Source for ReaderSource<D> {
+impl<D: ReadDevice> Source for ReaderSource<D> {
     ghost use Rattle.plist_devices.specs.ReaderSource.{device_of, octets_to_come, failures_of};
 
     ghost remaining = { octets_to_come D.remaining };

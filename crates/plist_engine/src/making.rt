@@ -1,13 +1,14 @@
 //! The canonical file, in memory.
 ghost use Rattle.std.specs.Prelude.{◌≡◌, None, Some, IfOk};
 ghost use Rattle.plist_value.specs.Plist.{Plist};
+ghost use Rattle.plist_object.specs.KeyOrder.{IsReady};
 ghost use Rattle.plist_object.specs.Spelled.{IsBinary};
 ghost use Rattle.plist_object.specs.Views.{octets_of};
 ghost use Rattle.plist_engine.specs.Canonical.{canon};
 
 use crate::sending::write_canonical_of;
 use crate::{DeviceFault, Sink};
-use plist_object::BinFile;
+use plist_object::JudgedFile;
 use std::alloc::{AllocError, Global};
 use std::hash::BuildHasher;
 
@@ -41,7 +42,7 @@ impl Sink for GrowingSink {
     }
 }
 
-/// Returns the canonical file of the value that `file` encodes.
+/// Returns the canonical file of the value that the file encodes.
 ///
 /// Visits the objects that the value uses, without building the value, and then the objects of the
 /// canonical file. Each value has exactly one canonical file, which is a binary file of it. The
@@ -53,20 +54,21 @@ impl Sink for GrowingSink {
 /// # Errors
 ///
 /// Fails if there is no memory for the file, or for the plan of its objects.
-pub fn canonical_of<'a, S: BuildHasher + Copy>(
+pub fn canonical_of<S: BuildHasher + Copy>(
     alloc: Global,
     hasher: S,
-    file: &BinFile<'a>,
+    judged: JudgedFile,
 ) -> Result<Vec<u8>, AllocError>
-    requires binary { (v : Plist) × IsBinary (octets_of file.now) v }
-    ensures { IfOk result (λ octets. (v : Plist) → IsBinary (octets_of file.now) v
+    requires binary { (v : Plist) × IsBinary (octets_of judged.file) v }
+    requires ready { IsReady (octets_of judged.file) judged.order }
+    ensures { IfOk result (λ octets. (v : Plist) → IsBinary (octets_of judged.entry.file) v
         → octets.items ≡ canon v) }
 {
     let mut sink = GrowingSink {
         octets: Vec::new(alloc),
         failures: 0,
     };
-    match write_canonical_of(alloc, hasher, file, &mut sink) {
+    match write_canonical_of(alloc, hasher, judged, &mut sink) {
         Ok(_) => Ok(sink.octets),
         Err(_) => Err(AllocError),
     }

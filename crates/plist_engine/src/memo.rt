@@ -24,7 +24,7 @@ pub(crate) const SINGLE: u32 = NO_NUMBER - 1;
 const MANY: usize = 4_096;
 
 // Strings and data of at least this many units or bytes are long.
-const LONG: usize = 256;
+const LONG: usize = 32;
 
 /// The number of each object of the file that was visited as a scalar.
 #[derive(Drop)]
@@ -167,7 +167,7 @@ fn mark_single(numbers: &mut Vec<u32>, filter: &RepeatFilter)
     }
 }
 
-// Returns whether the scalar takes longer to hash than its offset takes to look up.
+// Returns whether hashing the scalar takes longer than looking up its offset.
 fn is_long(scalar: &ScalarRef) -> bool {
     match scalar {
         ScalarRef::Text(text) => text.len() >= LONG,

@@ -132,7 +132,7 @@ impl<'a, W: Sink> Output<'a, W> {
         self.send(octets)
     }
 
-    // Sends these bytes directly; the buffer is empty.
+    // Sends these bytes without a copy. The buffer must be empty.
     fn send(&mut self, octets: &[u8]) -> Result<(), WriteFault>
         requires none { self.old.waiting.now.items ≡ [] }
         requires room { CanTake octets.now (state_of W.Sink self.old) }

@@ -2,6 +2,7 @@
 ghost use Rattle.std.specs.Prelude.{◌≡◌, ◌+◌, ◌<◌, ◌≤◌, ◌-◌, ◌^◌, ◌∷◌, [], ℕ, length, IfOk};
 ghost use Rattle.std.specs.List.{concat};
 ghost use Rattle.plist_value.specs.Plist.{Plist, bytes};
+ghost use Rattle.plist_object.specs.KeyOrder.{IsReady};
 ghost use Rattle.plist_object.specs.Layout.{header};
 ghost use Rattle.plist_object.specs.Sizes.{IsWidth};
 ghost use Rattle.plist_object.specs.Spelled.{IsBinary};
@@ -23,7 +24,7 @@ use crate::plan::Objects;
 use crate::renumbering::renumbered_object;
 use crate::walk::objects_of;
 use crate::{Output, Sink, WriteFault};
-use plist_object::{BinFile, HEADER, put_data_head, width_of};
+use plist_object::{BinFile, HEADER, JudgedFile, put_data_head, width_of};
 use plist_value::ScalarRef;
 use std::alloc::Global;
 use std::hash::BuildHasher;
@@ -31,9 +32,9 @@ use std::hash::BuildHasher;
 /// The most bytes of a data object that precede its content.
 const MOST_HEAD: u64 = 10;
 
-/// Sends the canonical file of the value that `file` encodes, object after object, and returns its
-/// size. Neither the value nor its canonical file is built in memory. No piece is longer than 4,096
-/// bytes, or than the longest object if that is longer.
+/// Sends the canonical file of the value that the file encodes, object after object, and returns
+/// its size. Neither the value nor its canonical file is built in memory. No piece is longer than
+/// 4,096 bytes, or than the longest object if that is longer.
 ///
 /// A dictionary with the same keys as the one before reuses its order. Scalars are hashed by
 /// `hasher`. If others choose the files, pass a [`RandomState`](std::hash::RandomState): scalars
@@ -45,22 +46,24 @@ const MOST_HEAD: u64 = 10;
 /// [`WriteFault::WriteFailed`] (51) if the sink fails, and [`WriteFault::OutOfMemory`] (60) if
 /// there is no memory for the plan of the objects or for one of them. Exactly the first `sent`
 /// bytes of the file were written then.
-pub fn write_canonical_of<'a, S: BuildHasher + Copy, W: Sink>(
+pub fn write_canonical_of<S: BuildHasher + Copy, W: Sink>(
     alloc: Global,
     hasher: S,
-    file: &BinFile<'a>,
+    judged: JudgedFile,
     out: &mut W,
 ) -> Result<u64, WriteFault>
-    requires binary { (v : Plist) × IsBinary (octets_of file.now) v }
-    ensures written { (v : Plist) → IsBinary (octets_of file.now) v
+    requires binary { (v : Plist) × IsBinary (octets_of judged.file) v }
+    requires ready { IsReady (octets_of judged.file) judged.order }
+    ensures written { (v : Plist) → IsBinary (octets_of judged.entry.file) v
         → IsWritten (canon v) (W.taken out.old) (W.taken out.new)
         (W.failures out.old) (W.failures out.new) result }
     ensures same { W.device out.new ≡ W.device out.old }
-    ensures pieces { (v : Plist) → IsBinary (octets_of file.now) v
+    ensures pieces { (v : Plist) → IsBinary (octets_of judged.entry.file) v
         → ArePieces (objects_of (preorder v)) (W.longest out.old) (W.longest out.new) }
 {
-    let objects = objects_of(alloc, hasher, file)?;
-    send_file(alloc, file, objects, out)
+    let JudgedFile { file, order, .. } = judged;
+    let objects = objects_of(alloc, hasher, &file, order)?;
+    send_file(alloc, &file, objects, out)
 }
 
 fn send_file<W: Sink>(

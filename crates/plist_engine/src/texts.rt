@@ -20,7 +20,7 @@ use crate::notation::{Mark, Notation};
 use crate::objects::object_of;
 use crate::order::in_turn;
 use crate::{Output, Sink, WriteFault};
-use plist_object::{BinFile, KeyOrder, Object, Refs, text_of};
+use plist_object::{BinFile, JudgedFile, KeyOrder, Object, Refs, text_of};
 use std::alloc::Global;
 
 /// Writes the text of the file's value, object by object, and returns its length in bytes. Neither
@@ -34,11 +34,12 @@ use std::alloc::Global;
 /// cases exactly the first `sent` bytes of the text were written.
 pub fn write_in_notation<W: Sink, N: Notation<W>>(
     alloc: Global,
-    file: &BinFile,
+    judged: JudgedFile,
     out: &mut W,
 ) -> Result<u64, WriteFault>
-    requires { (v : Plist) × IsBinary (octets_of file.now) v }
-    ensures written { (v : Plist) → IsBinary (octets_of file.now) v
+    requires binary { (v : Plist) × IsBinary (octets_of judged.file) v }
+    requires ready { IsReady (octets_of judged.file) judged.order }
+    ensures written { (v : Plist) → IsBinary (octets_of judged.entry.file) v
         → IsWritten (whole_in N.parts v) (W.taken out.old) (W.taken out.new)
         (W.failures out.old) (W.failures out.new) result }
     ensures same { W.device out.new ≡ W.device out.old }
@@ -49,23 +50,28 @@ pub fn write_in_notation<W: Sink, N: Notation<W>>(
         waiting: &mut waiting,
         sent: 0,
     };
-    write_whole::<W, N>(alloc, file, &mut output)?;
+    write_whole::<W, N>(alloc, judged, &mut output)?;
     Ok(output.sent)
 }
 
 // Writes the whole text, and then flushes the buffer.
 fn write_whole<W: Sink, N: Notation<W>>(
     alloc: Global,
-    file: &BinFile,
+    judged: JudgedFile,
     out: &mut Output<W>,
 ) -> Result<(), WriteFault>
-    requires { (v : Plist) × IsBinary (octets_of file.now) v }
-    ensures goes { (v : Plist) → IsBinary (octets_of file.now) v → Goes (whole_in N.parts v)
-        (state_of W.Sink out.old) (state_of W.Sink out.new) result }
+    requires binary { (v : Plist) × IsBinary (octets_of judged.file) v }
+    requires ready { IsReady (octets_of judged.file) judged.order }
+    ensures goes { (v : Plist) → IsBinary (octets_of judged.entry.file) v
+        → Goes (whole_in N.parts v) (state_of W.Sink out.old) (state_of W.Sink out.new) result }
     ensures none { OnOk result (out.new.waiting.now.items ≡ []) }
 {
-    let writer = Writer { alloc, file: *file };
-    let mut order = KeyOrder::new(alloc, file);
+    let JudgedFile {
+        file,
+        mut order,
+        ..
+    } = judged;
+    let writer = Writer { alloc, file };
     writer.value::<W, N>(&mut order, file.top(), 0, out)?;
     N::write_mark(Mark::TextEnd, out)?;
     out.send_all()

@@ -21,13 +21,15 @@ pub(crate) fn objects_of<'a, S: BuildHasher + Copy>(
     alloc: Global,
     hasher: S,
     file: &BinFile<'a>,
+    order: KeyOrder<'a>,
 ) -> Result<Objects, AllocError>
-    requires { (v : Plist) × IsBinary (octets_of file.now) v }
+    requires binary { (v : Plist) × IsBinary (octets_of file.now) v }
+    requires ready { IsReady (octets_of file.now) order }
     ensures { IfOk result (λ objects. (v : Plist) → IsBinary (octets_of file.now) v
         → AreObjectsOf (octets_of file.now) v objects) }
 {
     let mut plan = Plan::new(alloc, hasher, file)?;
-    let mut order = KeyOrder::new(alloc, file);
+    let mut order = order;
     walk(alloc, file, &mut plan, &mut order, file.top(), MAX_DEPTH)?;
     Ok(plan.into_objects())
 }

@@ -7,7 +7,8 @@ use Rattle.plist_engine.specs.Sending.{IsWritten}
 use Rattle.plist_engine.specs.declared.faults.WriteFault.{WriteFault}
 use Rattle.plist_engine.specs.declared.faults.WriteFault.TheVariants as write
 use Rattle.plist_print.specs.Printed.{printed}
-use Rattle.ostep_text.specs.Written.{is_writable, written}
+use Rattle.plist_value.specs.Writable.{is_writable}
+use Rattle.ostep_text.specs.Written.{written}
 use Rattle.plist_forms.specs.Accepted.{IsAccepted}
 use Rattle.plist_forms.specs.Fault.{write_fault_for}
 use Rattle.plist_forms.specs.Printed.{Prints}

@@ -32,8 +32,29 @@ text_refused octets begins fault stands none = record {
     go other v (inl accepted) = let no : true ≡ false = sym accepted.0 ∙ begins in cc
     go other v (inr accepted) = none other v accepted.1
 
+binary_stands : (octets : List ℕ) → begins_as_binary octets ≡ true → (fault : BinaryFault)
+    → of_binary.Stands octets fault → FaultStands octets (fault_for fault)
+binary_stands octets begins binary.OutOfMemory stands = refl
+binary_stands octets begins fault stands = (begins, stands)
+
+pub binary_refused : (octets : List ℕ) → begins_as_binary octets ≡ true → (fault : BinaryFault)
+    → of_binary.Stands octets fault → (fault ≢ binary.OutOfMemory → (v : Plist) → IsBinary octets v → ⊥)
+    → IsRefused octets (fault_for fault)
+binary_refused octets begins fault stands none = record {
+  stands = binary_stands octets begins fault stands;
+  none = λ other. go (λ e. other (ap (λ f. code_of (fault_for f)) e));
+}
+  where
+    go : fault ≢ binary.OutOfMemory → (v : Plist) → IsAccepted octets v → ⊥
+    go other v (inl accepted) = none other v accepted.1
+    go other v (inr accepted) = let no : true ≡ false = sym begins ∙ accepted.0 in cc
+
 -- a call that fails with this refusal
+pub failed_as : {A : Type 0} (Cause : Fault → Type 0) (refusal : Fault) (result : Result A Fault)
+    → IsErrAnd result (λ fault. fault ≡ refusal) → Cause refusal → IfErr result Cause
+failed_as Cause refusal (Ok value) is cause = tt
+failed_as Cause refusal (Err fault) is cause = subst Cause (sym is) cause
+
 pub refused_as : {A : Type 0} (octets : List ℕ) (refusal : Fault) (result : Result A Fault)
     → IsErrAnd result (λ fault. fault ≡ refusal) → IsRefused octets refusal → IfErr result (IsRefused octets)
-refused_as octets refusal (Ok value) is refused = tt
-refused_as octets refusal (Err fault) is refused = subst (IsRefused octets) (sym is) refused
+refused_as octets refusal result is refused = failed_as (IsRefused octets) refusal result is refused

@@ -3,14 +3,11 @@ use Rattle.std.proofs.Common.{◌≡◌, true, refl, false, List, ℕ}
 use Rattle.std.proofs.lemmas.Bool.{and_parts}
 use Rattle.std.specs.Cmp.Derive.{both_true}
 use Rattle.plist_value.specs.Plist.{Plist, Items, Pairs}
-use Rattle.plist_object.specs.Spelled.{IsBinary}
 use Rattle.ostep_lex.specs.Lexeme.{Lexeme}
 use Rattle.ostep_text.specs.Phrase.{Phrase, ItemsPhrase, RowPhrase, RowsPhrase, TopPhrase, a_string, some_data, a_list, a_table, items_end, last_item, an_item, with_value, key_alone, rows_end, a_row, a_value, bare_table}
 use Rattle.ostep_text.specs.Sorting.{StandsAmong, AreReordered, first, later, none, row}
 use Rattle.ostep_text.specs.Text.{IsText}
-use Rattle.ostep_text.specs.Written.{is_writable, are_writable_items, are_writable_pairs}
-use Rattle.plist_forms.specs.Accepted.{IsAccepted, begins_as_binary}
-use Rattle.plist_forms.proofs.Accepting.{accepted_text}
+use Rattle.plist_value.specs.Writable.{is_writable, are_writable_items, are_writable_pairs}
 
 among : {key : List ℕ} {v : Plist} {others all : Pairs} → StandsAmong key v others all → is_writable v ≡ true
     → are_writable_pairs others ≡ true → are_writable_pairs all ≡ true
@@ -48,9 +45,3 @@ top (bare_table inside sorted) = reordered sorted.same (rows inside)
 
 pub text_writable : (octets : List ℕ) (v : Plist) → IsText octets v → is_writable v ≡ true
 text_writable octets v text = top text.phrase
-
--- so has that of a text's draft
-pub draft_writable : (octets draft : List ℕ) → begins_as_binary octets ≡ false
-    → ((v : Plist) → IsBinary draft v → IsAccepted octets v) → (v : Plist) → IsBinary draft v → is_writable v ≡ true
-draft_writable octets draft begins drafted v binary =
-    text_writable octets v (accepted_text octets v begins (drafted v binary))

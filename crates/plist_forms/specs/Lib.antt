@@ -1,5 +1,6 @@
 pub mod Accepted
 pub mod Fault
+pub mod Judged
 pub mod Laws
 pub mod Line
 pub mod Load

@@ -1,5 +1,5 @@
 //! From bytes to values and to canonical files.
-ghost use Rattle.std.specs.Prelude.{◌≡◌, true, false, IfOk, IfErr, OnOk};
+ghost use Rattle.std.specs.Prelude.{◌≡◌, IfOk, IfErr, OnOk};
 ghost use Rattle.plist_value.specs.Plist.{Plist};
 ghost use Rattle.plist_value.specs.Limits.{Fits};
 ghost use Rattle.plist_value.specs.View.{view};
@@ -7,9 +7,8 @@ ghost use Rattle.plist_forms.specs.Accepted.{IsAccepted, IsCanonicalOf, begins_a
 ghost use Rattle.plist_forms.specs.Pair.{IsPair, IsRefusedPair};
 ghost use Rattle.plist_forms.specs.Refusals.{IsRefused};
 
-use crate::judged::{draft_of, judge_binary, judge_draft};
+use crate::judged::Binary;
 use crate::{Fault, PairFault};
-use ostep_text::read_text;
 use plist_engine::canonical_of;
 use plist_value::{FixedHasher, Value};
 use std::alloc::Global;
@@ -27,15 +26,11 @@ pub fn read_any(alloc: Global, octets: &[u8]) -> Result<Value, Fault>
     ensures fits { IfOk result (λ value. Fits (view value)) }
     ensures refused { IfErr result (IsRefused octets.now) }
 {
-    if begins_as_binary(octets) {
-        Ok(plist_binary::read(alloc, octets)?)
-    } else {
-        Ok(read_text(alloc, octets)?)
-    }
+    let binary = Binary::of(alloc, octets)?;
+    Ok(plist_binary::read(alloc, binary.octets())?)
 }
 
-/// Validates that the bytes encode a value, without building it. A text is read into a binary file,
-/// which is then validated.
+/// Validates that the bytes encode a value, without building it.
 ///
 /// # Errors
 ///
@@ -44,12 +39,8 @@ pub fn judge_any(alloc: Global, octets: &[u8]) -> Result<(), Fault>
     ensures ok { OnOk result ((v : Plist) × IsAccepted octets.now v) }
     ensures refused { IfErr result (IsRefused octets.now) }
 {
-    if begins_as_binary(octets) {
-        judge_binary(alloc, octets)?;
-    } else {
-        let draft = draft_of(alloc, octets)?;
-        judge_draft(alloc, &draft, octets)?;
-    }
+    let binary = Binary::of(alloc, octets)?;
+    binary.judged(alloc)?;
     Ok(())
 }
 
@@ -88,39 +79,9 @@ pub fn canonicalise_with_hasher<S: BuildHasher + Copy>(
     ensures canonical { IfOk result (λ file. IsCanonicalOf octets.now file.items) }
     ensures refused { IfErr result (IsRefused octets.now) }
 {
-    if begins_as_binary(octets) {
-        canonicalise_binary(alloc, hasher, octets)
-    } else {
-        canonicalise_text(alloc, hasher, octets)
-    }
-}
-
-fn canonicalise_binary<S: BuildHasher + Copy>(
-    alloc: Global,
-    hasher: S,
-    octets: &[u8],
-) -> Result<Vec<u8>, Fault>
-    requires { begins octets.now ≡ true }
-    ensures canonical { IfOk result (λ file. IsCanonicalOf octets.now file.items) }
-    ensures refused { IfErr result (IsRefused octets.now) }
-{
-    let file = judge_binary(alloc, octets)?;
-    Ok(canonical_of(alloc, hasher, &file)?)
-}
-
-// Makes the file from the draft of the text.
-fn canonicalise_text<S: BuildHasher + Copy>(
-    alloc: Global,
-    hasher: S,
-    octets: &[u8],
-) -> Result<Vec<u8>, Fault>
-    requires { begins octets.now ≡ false }
-    ensures canonical { IfOk result (λ file. IsCanonicalOf octets.now file.items) }
-    ensures refused { IfErr result (IsRefused octets.now) }
-{
-    let draft = draft_of(alloc, octets)?;
-    let file = judge_draft(alloc, &draft, octets)?;
-    Ok(canonical_of(alloc, hasher, &file)?)
+    let binary = Binary::of(alloc, octets)?;
+    let judged = binary.judged(alloc)?;
+    Ok(canonical_of(alloc, hasher, judged)?)
 }
 
 /// Returns whether two inputs encode equal values, that is, whether their canonical files are

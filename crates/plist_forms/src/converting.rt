@@ -1,22 +1,21 @@
 //! Converting a property list from a source to a sink.
-ghost use Rattle.std.specs.Prelude.{◌≡◌, ◌<◌, ◌↔◌, true, length, IfErr, IsErrOf};
+ghost use Rattle.std.specs.Prelude.{◌≡◌, ◌<◌, ◌↔◌, ℕ, List, length, IfErr, IsErrOf};
 ghost use Rattle.plist_devices.specs.Count.{HasFailed, one_more};
-ghost use Rattle.plist_forms.specs.Accepted.{begins_as_binary as begins};
+ghost use Rattle.plist_forms.specs.Judged.{IsReadFrom};
 ghost use Rattle.plist_forms.specs.Load.{Takes};
 ghost use Rattle.plist_forms.specs.Sent.{IsBeforePut};
 ghost use Rattle.plist_forms.specs.Transfer.{IsTransfer, Writes};
 
-use crate::canonicals::begins_as_binary;
 use crate::faults::Fault;
 use crate::forms::Form;
-use crate::judged::{draft_of, judge_binary, judge_draft};
+use crate::judged::Binary;
 use crate::loading::{MAX_INPUT, load};
-use crate::openstep::write_openstep;
-use ostep_write::write_text_of;
+use crate::openstep::write_text;
 use plist_devices::{Sink, Source};
 use plist_engine::write_canonical_of;
 use plist_value::FixedHasher;
 use std::alloc::Global;
+use std::convert::AsSlice;
 use std::hash::BuildHasher;
 
 /// Loads a property list in either form from `from`, sends its value to `to` as a canonical file or
@@ -122,61 +121,27 @@ pub fn convert_octets<H: BuildHasher + Copy, W: Sink>(
     ensures untouched { IfErr result (λ fault. IsBeforePut fault → to.new ≡ to.old) }
     ensures same { W.device to.new ≡ W.device to.old }
 {
+    let binary = Binary::of(alloc, octets)?;
     match form {
-        Form::Binary1 => write_binary1(alloc, hasher, octets, to),
-        Form::OpenStep => write_text(alloc, octets, to),
+        Form::Binary1 => write_binary1(alloc, hasher, &binary, to),
+        Form::OpenStep => write_text(alloc, &binary, to),
     }
 }
 
-// Frees the bytes of a text before the first put.
-fn write_binary1<H: BuildHasher + Copy, W: Sink>(
+// Sends the canonical file of the value that the binary file of an input encodes.
+fn write_binary1<H: BuildHasher + Copy, I: AsSlice<u8> + Drop, W: Sink>(
     alloc: Global,
     hasher: H,
-    octets: Vec<u8>,
+    binary: &Binary<I>,
     to: &mut W,
 ) -> Result<u64, Fault>
-    ensures writes { Writes Form.Binary1 octets.items (W.taken to.old) (W.taken to.new)
+    requires { (input : List ℕ) × IsReadFrom I.items input binary.now }
+    ensures writes { (input : List ℕ) → IsReadFrom I.items input binary.now
+        → Writes Form.Binary1 input (W.taken to.old) (W.taken to.new)
         (W.failures to.old) (W.failures to.new) result }
     ensures untouched { IfErr result (λ fault. IsBeforePut fault → to.new ≡ to.old) }
     ensures same { W.device to.new ≡ W.device to.old }
 {
-    if begins_as_binary(octets.as_slice()) {
-        return write_file(alloc, hasher, octets.as_slice(), to);
-    }
-    let draft = draft_of(alloc, octets.as_slice())?;
-    let file = judge_draft(alloc, &draft, octets.as_slice())?;
-    drop(octets);
-    Ok(write_canonical_of(alloc, hasher, &file, to)?)
-}
-
-fn write_file<H: BuildHasher + Copy, W: Sink>(
-    alloc: Global,
-    hasher: H,
-    octets: &[u8],
-    to: &mut W,
-) -> Result<u64, Fault>
-    requires { begins octets.now ≡ true }
-    ensures writes { Writes Form.Binary1 octets.now (W.taken to.old) (W.taken to.new)
-        (W.failures to.old) (W.failures to.new) result }
-    ensures untouched { IfErr result (λ fault. IsBeforePut fault → to.new ≡ to.old) }
-    ensures same { W.device to.new ≡ W.device to.old }
-{
-    let file = judge_binary(alloc, octets)?;
-    Ok(write_canonical_of(alloc, hasher, &file, to)?)
-}
-
-// Like `write_openstep`, but frees the bytes of a text before the first put.
-fn write_text<W: Sink>(alloc: Global, octets: Vec<u8>, to: &mut W) -> Result<u64, Fault>
-    ensures writes { Writes Form.OpenStep octets.items (W.taken to.old) (W.taken to.new)
-        (W.failures to.old) (W.failures to.new) result }
-    ensures untouched { IfErr result (λ fault. IsBeforePut fault → to.new ≡ to.old) }
-    ensures same { W.device to.new ≡ W.device to.old }
-{
-    if begins_as_binary(octets.as_slice()) {
-        return write_openstep(alloc, octets.as_slice(), to);
-    }
-    let draft = draft_of(alloc, octets.as_slice())?;
-    let file = judge_draft(alloc, &draft, octets.as_slice())?;
-    drop(octets);
-    Ok(write_text_of(alloc, &file, to)?)
+    let judged = binary.judged(alloc)?;
+    Ok(write_canonical_of(alloc, hasher, judged, to)?)
 }

@@ -1,73 +1,80 @@
-//! Validating binary files: the input itself, or the draft of a text.
-ghost use Rattle.std.specs.Prelude.{◌≡◌, true, false, IfOk, IfErr, OnOk};
+//! The binary file that encodes the value of an input: the input itself, or the draft of a text.
+ghost use Rattle.std.specs.Prelude.{◌≡◌, ℕ, List, IfOk, IfErr};
 ghost use Rattle.plist_value.specs.Plist.{Plist};
+ghost use Rattle.plist_value.specs.Writable.{is_writable};
+ghost use Rattle.plist_object.specs.KeyOrder.{IsReady};
+ghost use Rattle.plist_object.specs.Layout.{IsLaid};
 ghost use Rattle.plist_object.specs.Spelled.{IsBinary};
 ghost use Rattle.plist_object.specs.Views.{octets_of};
-ghost use Rattle.ostep_text.specs.Text.{IsNoText, IsText};
-ghost use Rattle.plist_forms.specs.Accepted.{IsAccepted, begins_as_binary as begins};
+ghost use Rattle.plist_forms.specs.Judged.{Encodes, IsReadFrom, octets_in};
 ghost use Rattle.plist_forms.specs.Refusals.{IsRefused};
 
 use crate::Fault;
-use ostep_draft::{NoDraft, draft_text};
-use ostep_text::judge_text;
-use plist_binary::{BinaryFault, judge_file};
-use plist_object::BinFile;
+use crate::canonicals::begins_as_binary;
+use ostep_text::draft_text;
+use plist_binary::judge_file;
+use plist_object::{BinFile, JudgedFile};
 use std::alloc::Global;
+use std::convert::AsSlice;
 
-/// Validates the bytes as a binary file of a value within the limits.
-pub(crate) fn judge_binary(alloc: Global, octets: &[u8]) -> Result<BinFile<'_>, Fault>
-    requires { begins octets.now ≡ true }
-    ensures file { IfOk result (λ file. octets_of file ≡ octets.entry.now) }
-    ensures binary { OnOk result ((v : Plist) × IsBinary octets.entry.now v) }
-    ensures refused { IfErr result (IsRefused octets.entry.now) }
-{
-    Ok(judge_file(alloc, octets)?)
+/// A binary file that encodes the value of an input, if it encodes any. `I` owns or borrows the
+/// input.
+#[derive(Drop)]
+pub(crate) enum Binary<I> {
+    /// The input, which begins with `bplist`.
+    Input(I),
+    /// The draft of a text, which encodes its value.
+    Draft(Vec<u8>),
 }
 
-/// Reads a text into a binary file, its draft. The draft has to be validated: within the limits it
-/// encodes exactly the value of the text, if there is one.
-pub(crate) fn draft_of(alloc: Global, text: &[u8]) -> Result<Vec<u8>, Fault>
-    requires { begins text.now ≡ false }
-    ensures drafted { IfOk result (λ draft. (v : Plist) → IsBinary draft.items v
-        → IsAccepted text.now v) }
-    ensures each { IfOk result (λ draft. (v : Plist) → IsText text.now v
-        → IsBinary draft.items v) }
-    ensures refused { IfErr result (IsRefused text.now) }
-{
-    match draft_text(alloc, text) {
-        Ok(draft) => Ok(draft),
-        Err(NoDraft::NoValue) => Err(refusal(alloc, text)),
-        Err(NoDraft::OutOfMemory) => Err(Fault::OutOfMemory { sent: 0 }),
+impl<I: AsSlice<u8> + Drop> Binary<I> {
+    /// Returns the binary file of an input. A text is read into a draft, and dropped.
+    pub(crate) fn of(alloc: Global, input: I) -> Result<Binary<I>, Fault>
+        ensures read { IfOk result (IsReadFrom I.items (I.items input)) }
+        ensures refused { IfErr result (IsRefused (I.items input)) }
+    {
+        if begins_as_binary(input.as_slice()) {
+            return Ok(Binary::Input(input));
+        }
+        Ok(Binary::Draft(draft_text(alloc, input.as_slice())?))
+    }
+
+    /// Returns the bytes of the file.
+    pub(crate) fn octets(&self) -> &[u8]
+        ensures { result.now ≡ octets_in I.items self.now }
+    {
+        match self {
+            Binary::Input(input) => input.as_slice(),
+            Binary::Draft(draft) => draft.as_slice(),
+        }
+    }
+
+    /// Validates an input. A draft is valid, and its value has a text.
+    pub(crate) fn judged(&self, alloc: Global) -> Result<JudgedFile<'_>, Fault>
+        requires { (input : List ℕ) × IsReadFrom I.items input self.now }
+        ensures file { (input : List ℕ) → IsReadFrom I.items input self.entry.now
+            → IfOk result (λ judged. Encodes input (octets_of judged.file)) }
+        ensures ready { IfOk result (λ judged. IsReady (octets_of judged.file) judged.order) }
+        ensures writable { (input : List ℕ) → IsReadFrom I.items input self.entry.now
+            → IfOk result (λ judged. (v : Plist) → IsBinary (octets_of judged.file) v
+            → is_writable v ≡ judged.writable) }
+        ensures refused { (input : List ℕ) → IsReadFrom I.items input self.entry.now
+            → IfErr result (IsRefused input) }
+    {
+        match self {
+            Binary::Input(input) => Ok(judge_file(alloc, input.as_slice())?),
+            Binary::Draft(draft) => Ok(JudgedFile::draft(alloc, layout(draft.as_slice()), true)),
+        }
     }
 }
 
-// Returns why the text is refused.
-fn refusal(alloc: Global, text: &[u8]) -> Fault
-    requires text { begins text.now ≡ false }
-    requires none { IsNoText text.now }
-    ensures { IsRefused text.now result }
+// Returns the layout of a file that has one.
+fn layout(octets: &[u8]) -> BinFile<'_>
+    requires { IsLaid octets.now }
+    ensures { octets_of result ≡ octets.entry.now }
 {
-    match judge_text(alloc, text) {
-        Ok(()) => unreachable!(),
-        Err(fault) => Fault::from(fault),
-    }
-}
-
-/// Validates the draft of a text. Fails with the refusal of the text.
-pub(crate) fn judge_draft<'a>(
-    alloc: Global,
-    draft: &'a [u8],
-    text: &[u8],
-) -> Result<BinFile<'a>, Fault>
-    requires text { begins text.now ≡ false }
-    requires each { (v : Plist) → IsText text.now v → IsBinary draft.now v }
-    ensures file { IfOk result (λ file. octets_of file ≡ draft.entry.now) }
-    ensures binary { OnOk result ((v : Plist) × IsBinary draft.entry.now v) }
-    ensures refused { IfErr result (IsRefused text.now) }
-{
-    match judge_file(alloc, draft) {
-        Ok(file) => Ok(file),
-        Err(BinaryFault::OutOfMemory) => Err(Fault::OutOfMemory { sent: 0 }),
-        Err(_) => Err(refusal(alloc, text)),
+    match BinFile::of(octets) {
+        Ok(file) => file,
+        Err(_) => unreachable!(),
     }
 }

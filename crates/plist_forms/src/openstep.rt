@@ -1,22 +1,23 @@
 //! Writing the OpenStep text of an input.
-ghost use Rattle.std.specs.Prelude.{◌≡◌, true, false, IfErr, IfOk, OnOk};
+ghost use Rattle.std.specs.Prelude.{◌≡◌, ℕ, List, true, IfErr, IfOk};
 ghost use Rattle.plist_value.specs.Plist.{Plist};
+ghost use Rattle.plist_object.specs.KeyOrder.{IsReady};
 ghost use Rattle.plist_object.specs.Spelled.{IsBinary};
 ghost use Rattle.plist_object.specs.Views.{octets_of};
-ghost use Rattle.ostep_text.specs.Written.{is_writable};
-ghost use Rattle.plist_forms.specs.Accepted.{begins_as_binary as begins};
+ghost use Rattle.plist_value.specs.Writable.{is_writable};
+ghost use Rattle.plist_forms.specs.Judged.{Encodes, IsReadFrom};
 ghost use Rattle.plist_forms.specs.Output.{IsOutputFault};
 ghost use Rattle.plist_forms.specs.Sent.{IsBeforePut};
 ghost use Rattle.plist_forms.specs.Transfer.{Writes};
 
-use crate::canonicals::begins_as_binary;
 use crate::faults::Fault;
 use crate::forms::Form;
-use crate::judged::{draft_of, judge_binary, judge_draft};
-use ostep_write::{has_text, write_text_of};
+use crate::judged::Binary;
+use ostep_write::write_text_of;
 use plist_devices::Sink;
-use plist_object::BinFile;
+use plist_object::JudgedFile;
 use std::alloc::Global;
+use std::convert::AsSlice;
 
 /// Sends the OpenStep text of the value that the bytes encode, in either form, and returns its
 /// length in bytes.
@@ -37,36 +38,45 @@ pub fn write_openstep<W: Sink>(alloc: Global, octets: &[u8], to: &mut W) -> Resu
     ensures untouched { IfErr result (λ fault. IsBeforePut fault → to.new ≡ to.old) }
     ensures same { W.device to.new ≡ W.device to.old }
 {
-    if begins_as_binary(octets) {
-        let file = judge_writable(alloc, octets)?;
-        return Ok(write_text_of(alloc, &file, to)?);
-    }
-    let draft = draft_of(alloc, octets)?;
-    let file = judge_draft(alloc, &draft, octets)?;
-    Ok(write_text_of(alloc, &file, to)?)
+    let binary = Binary::of(alloc, octets)?;
+    write_text(alloc, &binary, to)
 }
 
-// Validates a binary file, and that its value has a text. The value of a text always has one.
-fn judge_writable(alloc: Global, octets: &[u8]) -> Result<BinFile<'_>, Fault>
-    requires { begins octets.now ≡ true }
-    ensures file { IfOk result (λ file. octets_of file ≡ octets.entry.now) }
-    ensures binary { OnOk result ((v : Plist) × IsBinary octets.entry.now v) }
-    ensures writable { OnOk result ((v : Plist) → IsBinary octets.entry.now v
+/// Sends the OpenStep text of the value that the binary file of an input encodes.
+pub(crate) fn write_text<I: AsSlice<u8> + Drop, W: Sink>(
+    alloc: Global,
+    binary: &Binary<I>,
+    to: &mut W,
+) -> Result<u64, Fault>
+    requires { (input : List ℕ) × IsReadFrom I.items input binary.now }
+    ensures writes { (input : List ℕ) → IsReadFrom I.items input binary.now
+        → Writes Form.OpenStep input (W.taken to.old) (W.taken to.new)
+        (W.failures to.old) (W.failures to.new) result }
+    ensures untouched { IfErr result (λ fault. IsBeforePut fault → to.new ≡ to.old) }
+    ensures same { W.device to.new ≡ W.device to.old }
+{
+    let judged = writable_file(alloc, binary)?;
+    Ok(write_text_of(alloc, judged, to)?)
+}
+
+// Validates the file, and that its value has a text.
+fn writable_file<I: AsSlice<u8> + Drop>(
+    alloc: Global,
+    binary: &Binary<I>,
+) -> Result<JudgedFile<'_>, Fault>
+    requires { (input : List ℕ) × IsReadFrom I.items input binary.now }
+    ensures file { (input : List ℕ) → IsReadFrom I.items input binary.entry.now
+        → IfOk result (λ judged. Encodes input (octets_of judged.file)) }
+    ensures ready { IfOk result (λ judged. IsReady (octets_of judged.file) judged.order) }
+    ensures writable { (input : List ℕ) → IsReadFrom I.items input binary.entry.now
+        → IfOk result (λ judged. (v : Plist) → IsBinary (octets_of judged.file) v
         → is_writable v ≡ true) }
-    ensures refused { IfErr result (IsOutputFault Form.OpenStep octets.entry.now) }
+    ensures refused { (input : List ℕ) → IsReadFrom I.items input binary.entry.now
+        → IfErr result (IsOutputFault Form.OpenStep input) }
 {
-    let file = judge_binary(alloc, octets)?;
-    let found = has_text(alloc, &file)?;
-    writable(file, found)
-}
-
-// Returns the file if its value has a text. Allocates nothing.
-fn writable(file: BinFile<'_>, has_text: bool) -> Result<BinFile<'_>, Fault>
-    ensures file { IfOk result (λ found. (found ≡ file.entry) × (has_text ≡ true)) }
-    ensures refused { IfErr result (λ fault. (fault ≡ Fault.NotInOpenStep) × (has_text ≡ false)) }
-{
-    if has_text {
-        Ok(file)
+    let judged = binary.judged(alloc)?;
+    if judged.writable {
+        Ok(judged)
     } else {
         Err(Fault::NotInOpenStep)
     }

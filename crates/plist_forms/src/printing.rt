@@ -4,8 +4,7 @@ ghost use Rattle.plist_forms.specs.Printed.{Prints};
 ghost use Rattle.plist_forms.specs.Sent.{IsBeforePut};
 
 use crate::Fault;
-use crate::canonicals::begins_as_binary;
-use crate::judged::{draft_of, judge_binary, judge_draft};
+use crate::judged::Binary;
 use plist_devices::Sink;
 use plist_print::print_of;
 use std::alloc::Global;
@@ -29,11 +28,7 @@ pub fn print<W: Sink>(alloc: Global, octets: &[u8], to: &mut W) -> Result<u64, F
     ensures untouched { IfErr result (λ fault. IsBeforePut fault → to.new ≡ to.old) }
     ensures same { W.device to.new ≡ W.device to.old }
 {
-    if begins_as_binary(octets) {
-        let file = judge_binary(alloc, octets)?;
-        return Ok(print_of(alloc, &file, to)?);
-    }
-    let draft = draft_of(alloc, octets)?;
-    let file = judge_draft(alloc, &draft, octets)?;
-    Ok(print_of(alloc, &file, to)?)
+    let binary = Binary::of(alloc, octets)?;
+    let judged = binary.judged(alloc)?;
+    Ok(print_of(alloc, judged, to)?)
 }

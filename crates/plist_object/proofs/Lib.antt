@@ -21,3 +21,4 @@ pub mod SortedRuns
 pub mod Ascents
 pub mod KeysInTurn
 pub mod Widths
+pub mod Alike

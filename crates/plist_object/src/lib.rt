@@ -3,6 +3,7 @@
 #![tactic(auto)]
 
 mod in_order;
+mod judged_file;
 mod keys;
 pub mod laws;
 pub mod layout;
@@ -20,6 +21,7 @@ mod reserved;
 pub mod shortest;
 mod units;
 
+pub use judged_file::JudgedFile;
 pub use layout::{BinFile, LayoutFault, Spanned};
 pub use lengths::{list_length, scalar_length, short, table_length, width_of};
 pub use markers::HEADER;

@@ -14,12 +14,13 @@ use crate::reals::{decimal_of_double, put_double};
 use byteorder::{BigEndian, ByteOrder};
 use std::alloc::AllocError;
 
-// The number of seconds of a day, from 0001-01-01T00:00:00Z to 2001-01-01T00:00:00Z, and to
-// 10000-01-01T00:00:00Z.
+// The number of seconds in a day.
 const DAY: u64 = 86_400;
 
+// The number of seconds from 0001-01-01T00:00:00Z to 2001-01-01T00:00:00Z.
 const UNTIL_2001: u64 = 63_113_904_000;
 
+// The number of seconds from 0001-01-01T00:00:00Z to 10000-01-01T00:00:00Z.
 const UNTIL_10000: u64 = 315_537_897_600;
 
 /// Appends the seconds of a date, and date and time in parentheses if it has them.

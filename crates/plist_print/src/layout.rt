@@ -6,8 +6,7 @@ ghost use Rattle.plist_print.specs.Units.{printed_text};
 ghost use Rattle.plist_print.specs.Printed.{indent};
 ghost use Rattle.plist_print.specs.Printing.{pair_head};
 
-use crate::lines::{SHORT, print_text};
-use crate::strings::put_text;
+use crate::lines::print_text;
 use plist_engine::{Output, Sink, WriteFault};
 use plist_value::TextRef;
 use std::alloc::AllocError;
@@ -24,34 +23,8 @@ pub(crate) fn begin_pair<W: Sink>(
     ensures goes { Goes (pair_head level (units_of key.now))
         (state_of W.Sink out.old) (state_of W.Sink out.new) result }
 {
-    if key.len() > SHORT {
-        return begin_long_pair(key, level, out);
-    }
-    let put = put_pair_head(out.waiting, key, level);
-    out.grown(put)
-}
-
-// Begins the line of an entry whose key is too long for one piece.
-fn begin_long_pair<W: Sink>(
-    key: &TextRef,
-    level: u64,
-    out: &mut Output<W>,
-) -> Result<(), WriteFault>
-    ensures goes { Goes (pair_head level (units_of key.now))
-        (state_of W.Sink out.old) (state_of W.Sink out.new) result }
-{
     begin_line(level, out)?;
     print_key(key, out)
-}
-
-// Appends the spaces, the key, and the arrow after it.
-fn put_pair_head(out: &mut Vec<u8>, key: &TextRef, level: u64) -> Result<(), AllocError>
-    ensures { OnOk result (out.new.items
-        ≡ out.old.items ++ pair_head level (units_of key.now)) }
-{
-    put_indent(out, level)?;
-    put_text(out, key)?;
-    out.extend_from_slice(b" => ")
 }
 
 /// Writes the closing bracket on its own line.

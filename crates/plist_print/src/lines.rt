@@ -10,14 +10,11 @@ ghost use Rattle.plist_print.specs.Shown.{is_short};
 use crate::data::print_data;
 use crate::dates::put_date;
 use crate::reals::{put_double, put_single};
-use crate::strings::{put_some, put_text};
+use crate::strings::put_some;
 use itoa::Buffer;
 use plist_engine::{Output, Sink, WriteFault};
 use plist_value::{ScalarRef, TextRef};
 use std::alloc::AllocError;
-
-/// Strings of at most this many units are put into one piece.
-pub(crate) const SHORT: usize = 256;
 
 /// Writes a scalar up to the end of its last line. `level` is the level of the line that it begins
 /// on. A piece of a printed text has less than 8 KiB.
@@ -47,19 +44,9 @@ fn print_short<W: Sink>(scalar: &ScalarRef, out: &mut Output<W>) -> Result<(), W
     ensures goes { Goes (printed_scalar (content_of scalar.now) ++ codes "\n")
         (state_of W.Sink out.old) (state_of W.Sink out.new) result }
 {
-    let put = put_short_line(out.waiting, scalar);
+    let put = put_short(out.waiting, scalar);
     out.grown(put)?;
-    out.settle()
-}
-
-// Appends the line of a scalar that is neither a string nor data.
-fn put_short_line(out: &mut Vec<u8>, scalar: &ScalarRef) -> Result<(), AllocError>
-    requires { is_short (content_of scalar.now) ≡ true }
-    ensures { OnOk result (out.new.items
-        ≡ out.old.items ++ (printed_scalar (content_of scalar.now) ++ codes "\n")) }
-{
-    put_short(out, scalar)?;
-    Ok(out.push(b'\n')?)
+    out.put(b"\n")
 }
 
 // Appends a scalar that is neither a string nor data.
@@ -90,27 +77,6 @@ fn put_short(out: &mut Vec<u8>, scalar: &ScalarRef) -> Result<(), AllocError>
 
 // Writes the line of a string.
 fn print_text_line<W: Sink>(text: &TextRef, out: &mut Output<W>) -> Result<(), WriteFault>
-    ensures goes { Goes (printed_text (units_of text.now) ++ codes "\n")
-        (state_of W.Sink out.old) (state_of W.Sink out.new) result }
-{
-    if text.len() > SHORT {
-        return print_long_text(text, out);
-    }
-    let put = put_text_line(out.waiting, text);
-    out.grown(put)?;
-    out.settle()
-}
-
-fn put_text_line(out: &mut Vec<u8>, text: &TextRef) -> Result<(), AllocError>
-    ensures { OnOk result (out.new.items
-        ≡ out.old.items ++ (printed_text (units_of text.now) ++ codes "\n")) }
-{
-    put_text(out, text)?;
-    Ok(out.push(b'\n')?)
-}
-
-// Writes the line of a string that is too long for one piece.
-fn print_long_text<W: Sink>(text: &TextRef, out: &mut Output<W>) -> Result<(), WriteFault>
     ensures goes { Goes (printed_text (units_of text.now) ++ codes "\n")
         (state_of W.Sink out.old) (state_of W.Sink out.new) result }
 {

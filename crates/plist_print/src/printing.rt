@@ -1,6 +1,7 @@
 //! Prints the value of a binary file to a sink.
 ghost use Rattle.std.specs.Prelude.{◌≡◌};
 ghost use Rattle.plist_value.specs.Plist.{Plist};
+ghost use Rattle.plist_object.specs.KeyOrder.{IsReady};
 ghost use Rattle.plist_object.specs.Spelled.{IsBinary};
 ghost use Rattle.plist_object.specs.Views.{octets_of};
 ghost use Rattle.plist_engine.specs.Sending.{IsWritten};
@@ -10,7 +11,7 @@ ghost use Rattle.plist_print.specs.Printing.{printed_parts};
 use crate::layout::{begin_line, begin_pair};
 use crate::lines::print_scalar;
 use plist_engine::{Mark, Notation, Output, Sink, WriteFault, write_in_notation};
-use plist_object::BinFile;
+use plist_object::JudgedFile;
 use plist_value::{ScalarRef, TextRef};
 use std::alloc::Global;
 
@@ -23,14 +24,15 @@ use std::alloc::Global;
 /// [`WriteFault::WriteFailed`] (51) if the sink fails. [`WriteFault::OutOfMemory`] (60) if out of
 /// memory for a key order or for a piece, or if the output would exceed `u64::MAX` bytes. In both
 /// cases exactly the first `sent` bytes of the text were written.
-pub fn print_of<W: Sink>(alloc: Global, file: &BinFile, out: &mut W) -> Result<u64, WriteFault>
-    requires { (v : Plist) × IsBinary (octets_of file.now) v }
-    ensures written { (v : Plist) → IsBinary (octets_of file.now) v
+pub fn print_of<W: Sink>(alloc: Global, judged: JudgedFile, out: &mut W) -> Result<u64, WriteFault>
+    requires binary { (v : Plist) × IsBinary (octets_of judged.file) v }
+    requires ready { IsReady (octets_of judged.file) judged.order }
+    ensures written { (v : Plist) → IsBinary (octets_of judged.entry.file) v
         → IsWritten (printed v) (W.taken out.old) (W.taken out.new)
         (W.failures out.old) (W.failures out.new) result }
     ensures same { W.device out.new ≡ W.device out.old }
 {
-    write_in_notation::<W, Printed>(alloc, file, out)
+    write_in_notation::<W, Printed>(alloc, judged, out)
 }
 
 // The notation of printed texts.

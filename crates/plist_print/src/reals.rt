@@ -56,8 +56,8 @@ fn likely_digits(shift: u32) -> u32
     (shift * 77 / 256).clamp(2, 21) - 1
 }
 
-// Like [`first_digits`], if `enough` digits are known to be enough. Trying all numbers of digits in
-// turn would take up to twice as long.
+// Like [`first_digits`], by binary search up to `enough` digits, which must be enough. Trying each
+// number of digits in turn would take up to twice as long.
 fn first_within(real: &Neighbours, enough: u32) -> u32
     requires some { 1 ≤ enough }
     requires few { enough ≤ 21 }

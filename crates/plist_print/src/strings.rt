@@ -12,26 +12,6 @@ use crate::unseen::{seen_pair, seen_unit};
 use plist_value::{TextRef, digits_of};
 use std::alloc::AllocError;
 
-/// Appends the string in quotes to `out`.
-pub(crate) fn put_text(out: &mut Vec<u8>, text: &TextRef) -> Result<(), AllocError>
-    ensures { OnOk result (out.new.items ≡ out.old.items ++ printed_text (units_of text.now)) }
-{
-    out.push(b'"')?;
-    put_units(out, text)?;
-    Ok(out.push(b'"')?)
-}
-
-// Appends all units to `out`.
-fn put_units(out: &mut Vec<u8>, text: &TextRef) -> Result<(), AllocError>
-    ensures { OnOk result (out.new.items ≡ out.old.items ++ printed_units (units_of text.now)) }
-{
-    let mut place = 0;
-    while place < text.len() {
-        place = put_some(out, text, place)?;
-    }
-    Ok(())
-}
-
 /// Appends some of the units from position `place` on to `out`, and returns the position after
 /// them. This is a sequence of characters that need no escape if the string is stored as ASCII.
 /// Otherwise, it is one unit, or the two units of a surrogate pair.

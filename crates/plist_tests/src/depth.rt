@@ -1,7 +1,7 @@
 //! Texts of values as deep as allowed, and deeper.
 use crate::texts::{LISTS, Parts, nested};
 use ostep_text::{TextFault, read_text, write_text};
-use plist_convert::{Fault, canonicalise};
+use plist_forms::{Fault, canonicalise};
 use plist_value::same;
 use std::alloc::{AllocError, Global};
 use std::test::Fail;
@@ -12,9 +12,12 @@ const TABLES: Parts = [b"", b"{a=", b"b", b";}", b""];
 // In a dictionary without braces.
 const BARE: Parts = [b"a = ", b"(", b"a", b")", b";"];
 
+// Dictionaries with arrays in them.
+const MIXED: Parts = [b"", b"{a=(", b"{a;}", b");}", b""];
+
 // The parts, how often they are nested, and the byte of the refusal. Each is refused where the
 // value 513 levels deep begins, whatever comes after it.
-const ROWS: [(Parts, usize, Option<usize>); 9] = [
+const ROWS: [(Parts, usize, Option<usize>); 11] = [
     (LISTS, 511, None),
     (LISTS, 512, Some(512)),
     ([b"", b"(", b"", b"", b""], 1_000_000, Some(512)),
@@ -24,6 +27,8 @@ const ROWS: [(Parts, usize, Option<usize>); 9] = [
     ([b"", b"{a=", b"b", b"", b""], 1_000_000, Some(1534)),
     (BARE, 510, None),
     (BARE, 511, Some(515)),
+    (MIXED, 255, None),
+    (MIXED, 256, Some(1024)),
 ];
 
 // Returns the index of the first row with another result.

@@ -1,32 +1,16 @@
 //! Canonical files made from binary files, without their values.
-ghost use Rattle.std.specs.Prelude.{IfOk};
-ghost use Rattle.plist_value.specs.Plist.{Plist};
-ghost use Rattle.plist_object.specs.Spelled.{IsBinary};
-
-use plist_binary::read;
+use plist_binary::judge_file;
 use plist_engine::{RepeatFilterBuilder, Scalars, canonical_of, natural_in};
-use plist_object::{BinFile, Object};
+use plist_object::Object;
 use plist_value::{FixedHasher, ScalarRef, Whole};
 use std::alloc::{AllocError, Global};
 use std::test::Fail;
 use test_files::Draft;
 
-// Validates the bytes for the contract of `canonical_of`.
-fn judge(alloc: Global, octets: &[u8]) -> Result<(), AllocError>
-    ensures { IfOk result (λ _. (v : Plist) × IsBinary octets.now v) }
-{
-    let Ok(value) = read(alloc, octets) else {
-        return Err(AllocError);
-    };
-    drop(value);
-    Ok(())
-}
-
 /// Returns the canonical file of the value that the bytes encode.
 pub(crate) fn canonical_file(alloc: Global, octets: &[u8]) -> Result<Vec<u8>, AllocError> {
-    judge(alloc, octets)?;
-    match BinFile::of(octets) {
-        Ok(file) => canonical_of(alloc, FixedHasher::new(), &file),
+    match judge_file(alloc, octets) {
+        Ok(judged) => canonical_of(alloc, FixedHasher::new(), judged),
         Err(_) => Err(AllocError),
     }
 }

@@ -2,13 +2,12 @@
 //! bench/growths.py runs a test once for each of its allocations, which it refuses from outside.
 //! The text of an assertion names no 60, so that a failed one is not taken for a returned 60.
 use crate::files::numbers;
-use crate::worked_files::{TABLE, TABLE_TEXT, TWICE, UNSORTED, WRITTEN_TEXT};
-use ostep_text::{TextFault, TextWriteFault, judge_text, read_text, write_text};
+use crate::worked_files::{TABLE, TABLE_TEXT, TWICE, WRITTEN_TEXT};
+use ostep_text::{TextFault, TextWriteFault, read_text, write_text};
 use plist_binary::{BinaryFault, read};
 use plist_canon::{CheckFault, ListSink, Verdict, WriteFault, canonical, check, write_canonical};
-use plist_convert::run;
 use plist_devices::ListSource;
-use plist_forms::{Fault, PairFault, canonicalise, line, load, read_any, same_files};
+use plist_forms::{Fault, PairFault, canonicalise, judge_any, line, load, read_any, same_files};
 use plist_value::{Utf16, Value, copy, fits, same};
 use std::alloc::{AllocError, Global};
 use std::test::Fail;
@@ -144,7 +143,7 @@ fn texts_are_read(rt: HostRuntime) -> Result<(), Fail> {
             read_text(rt.alloc(), octets)
                 .err()
                 .map_or(0, |fault| fault.code()),
-            judge_text(rt.alloc(), octets)
+            judge_any(rt.alloc(), octets)
                 .err()
                 .map_or(0, |fault| fault.code()),
             read_any(rt.alloc(), octets)
@@ -236,18 +235,5 @@ fn a_value_of_many_strings_is_read(rt: HostRuntime) -> Result<(), Fail> {
         return Err(Fail::from("it is no array"));
     };
     assert_eq!(rt; items.len(), 255);
-    Ok(())
-}
-
-// The output has capacity for all that is printed, so only the program itself allocates.
-#[test]
-fn a_run_prints_into_reserved_space(rt: HostRuntime) -> Result<(), Fail> {
-    for octets in [TABLE_TEXT, UNSORTED] {
-        let mut output = Vec::with_capacity(rt.alloc(), 1_000)?;
-        let mut input = octets;
-        let status = run(&rt, rt.alloc(), &[], &mut input, &mut output);
-        let is_done = status == 0 && output.as_slice() == TABLE;
-        assert!(rt; is_done || status == 5);
-    }
     Ok(())
 }

@@ -1,19 +1,12 @@
-//! The tests that no row of `rows` can express: generated files, failing devices, each prefix of
-//! small files and texts, deep texts and refused memory. Also the program over the files of the
-//! host and over a disk in memory. They are in one crate, because a crate with tests loads the
-//! proofs of everything below it.
+//! The tests of the formats that no row of `rows` can express: generated files, failing devices,
+//! each prefix of small files and texts, deep texts and refused memory. They are in one crate,
+//! because a crate with tests loads the proofs of everything below it.
 #![tactic(auto)]
 
 #[cfg(test)]
 mod depth;
 #[cfg(test)]
-mod device_tests;
-#[cfg(test)]
-mod devices;
-#[cfg(test)]
 mod drafts;
-#[cfg(test)]
-mod ending_tests;
 #[cfg(test)]
 mod engine;
 #[cfg(test)]
@@ -23,17 +16,11 @@ mod files;
 #[cfg(test)]
 mod growths;
 #[cfg(test)]
-mod help_tests;
-#[cfg(test)]
-mod host_tests;
-#[cfg(test)]
 mod judge_tests;
 #[cfg(test)]
 mod limit_tests;
 #[cfg(test)]
 mod loading_tests;
-#[cfg(test)]
-mod memory_tests;
 #[cfg(test)]
 mod object_tests;
 #[cfg(test)]
@@ -45,17 +32,7 @@ mod prefixes;
 #[cfg(test)]
 mod print_tests;
 #[cfg(test)]
-mod readme;
-#[cfg(test)]
-mod send_tests;
-#[cfg(test)]
-mod several_tests;
-#[cfg(test)]
 mod sink_tests;
-#[cfg(test)]
-mod strict;
-#[cfg(test)]
-mod surface;
 #[cfg(test)]
 mod texts;
 #[cfg(test)]
@@ -64,7 +41,6 @@ mod tokens;
 mod transfer_tests;
 #[cfg(test)]
 mod value_tests;
+
 #[cfg(test)]
-mod words;
-#[cfg(test)]
-mod worked_files;
+use test_files::{devices, worked_files};

@@ -4,7 +4,7 @@ use crate::engine::canonical_file;
 use crate::files::{numbers, zeros};
 use plist_binary::{BinaryFault, judge, read};
 use plist_canon::{Verdict, canonical, check};
-use plist_convert::{Fault, canonicalise};
+use plist_forms::{Fault, canonicalise};
 use plist_value::fits;
 use std::alloc::{AllocError, Global};
 use std::test::Fail;

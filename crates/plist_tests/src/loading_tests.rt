@@ -1,8 +1,8 @@
 //! Loading from sources in pieces, and from readers.
 use crate::devices::BrokenReader;
 use crate::worked_files::TABLE_TEXT;
-use plist_convert::{DeviceFault, Fault, ListSource, ReaderSource, Source, load};
-use plist_forms::load_unless;
+use plist_devices::{DeviceFault, ListSource, ReaderSource, Source};
+use plist_forms::{Fault, load, load_unless};
 use std::test::Fail;
 
 #[test]

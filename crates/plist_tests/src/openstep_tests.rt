@@ -1,4 +1,4 @@
-//! OpenStep texts of more than one piece, to sinks of any size.
+//! OpenStep texts of more than one piece.
 use crate::devices::Noting;
 use crate::texts::nested;
 use plist_devices::{ListSink, Sink};
@@ -73,25 +73,6 @@ fn a_long_text_is_sent_in_pieces(rt: HostRuntime) -> Result<(), Fail> {
                 send(alloc, octets, is_owned, &mut noting)?;
                 assert_eq!(rt; noting.all, text.len());
                 assert!(rt; noting.longest < 5000);
-            }
-        }
-    }
-    Ok(())
-}
-
-#[test]
-fn a_full_sink_holds_a_front_of_a_long_text(rt: HostRuntime) -> Result<(), Fail> {
-    let alloc = rt.alloc();
-    let (file, text) = (doubled(alloc, b"Qc")?, doubled_text(alloc)?);
-    for room in [0, 1, 4095, 4096, 4097, 10_000, 17_409] {
-        for octets in [file.as_slice(), text.as_slice()] {
-            for is_owned in [false, true] {
-                let mut sink = ListSink::new(alloc, room, 7)?;
-                let answer = send(alloc, octets, is_owned, &mut sink);
-                let sent = room as u64;
-                assert_eq!(rt; answer, Err(Fault::WriteFailed { sent }), "room {room}");
-                assert!(rt; text.get(..room) == Some(sink.taken()));
-                assert_eq!(rt; sink.failures(), 1);
             }
         }
     }

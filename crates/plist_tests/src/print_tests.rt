@@ -1,54 +1,17 @@
-//! Printing to sinks that fail, and without memory.
+//! Prints of refused input, and without memory.
 use crate::transfer_tests::is_front;
-use crate::worked_files::{TABLE as SORTED, TABLE_TEXT, TWICE};
+use crate::worked_files::{TABLE, TABLE_TEXT, TWICE};
 use plist_devices::{ListSink, Sink};
-use plist_forms::{Fault, canonicalise, print};
+use plist_forms::{Fault, print};
 use std::alloc::{AllocError, Global};
 use std::test::Fail;
 use test_files::file;
 
-const TABLE: &[u8] = b"{b=(a,<0f>);a=b;}";
-
-const PRINTED: &[u8] = b"{\n  \"a\" => \"b\"\n  \"b\" => [\n    \"a\"\n    <0f>\n  ]\n}\n";
-
-// Prints to a sink for `room` bytes, and returns the result and the sink.
-fn printing(
-    alloc: Global,
-    octets: &[u8],
-    room: usize,
-) -> Result<(Result<u64, Fault>, ListSink), AllocError> {
-    let mut sink = ListSink::new(alloc, room, 7)?;
+// Prints to a sink for 100 bytes, and returns the result and the sink.
+fn printing(alloc: Global, octets: &[u8]) -> Result<(Result<u64, Fault>, ListSink), AllocError> {
+    let mut sink = ListSink::new(alloc, 100, 7)?;
     let answer = print(alloc, octets, &mut sink);
     Ok((answer, sink))
-}
-
-// Returns the first size of a sink that does not take everything, or all that fits followed by a
-// refusal.
-fn wrong_room(alloc: Global, octets: &[u8]) -> Result<Option<usize>, AllocError> {
-    for room in 0..PRINTED.len() + 2 {
-        let (answer, sink) = printing(alloc, octets, room)?;
-        let most = room.min(PRINTED.len());
-        let sent = most as u64;
-        let wanted = if room < PRINTED.len() {
-            Err(Fault::WriteFailed { sent })
-        } else {
-            Ok(sent)
-        };
-        if answer != wanted || PRINTED.get(..most) != Some(sink.taken()) {
-            return Ok(Some(room));
-        }
-    }
-    Ok(None)
-}
-
-#[test]
-fn a_sink_of_any_room_holds_a_front_of_the_print(rt: HostRuntime) -> Result<(), Fail> {
-    let alloc = rt.alloc();
-    let own = canonicalise(alloc, TABLE)?;
-    for octets in [TABLE, own.as_slice()] {
-        assert_eq!(rt; wrong_room(alloc, octets)?, None);
-    }
-    Ok(())
 }
 
 #[test]
@@ -61,7 +24,7 @@ fn nothing_of_refused_octets_is_printed(rt: HostRuntime) -> Result<(), Fail> {
         (b"bplist00".as_slice(), 1),
     ];
     for (octets, code) in rows {
-        let (answer, sink) = printing(rt.alloc(), octets, 100)?;
+        let (answer, sink) = printing(rt.alloc(), octets)?;
         assert_eq!(rt; answer.err().map(|fault| fault.code()), Some(code));
         assert_eq!(rt; (sink.taken().len(), sink.failures()), (0, 0));
     }
@@ -73,8 +36,8 @@ fn nothing_of_refused_octets_is_printed(rt: HostRuntime) -> Result<(), Fail> {
 fn what_was_printed_is_a_front(rt: HostRuntime) -> Result<(), Fail> {
     let alloc = rt.alloc();
     let whole = b"{\n  \"a\" => \"b\"\n  \"b\" => \"a\"\n}\n".as_slice();
-    for octets in [TABLE_TEXT, SORTED] {
-        let (answer, sink) = printing(alloc, octets, 100)?;
+    for octets in [TABLE_TEXT, TABLE] {
+        let (answer, sink) = printing(alloc, octets)?;
         assert!(rt; is_front(&answer, &sink, whole));
     }
     Ok(())

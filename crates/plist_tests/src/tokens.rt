@@ -61,7 +61,7 @@ fn a_mark_after_whitespace_alone(rt: HostRuntime) -> Result<(), Fail> {
 // Returns the units of the first string, if it is read as bytes, and the offset after it.
 fn plain_of(octets: &[u8]) -> Result<Option<(&[u8], usize)>, LexFault> {
     match next_plain(open(octets)?) {
-        Some((text, behind)) => Ok(text.octets().map(|units| (units, behind.place()))),
+        Some((token, behind)) => Ok(token.text.octets().map(|units| (units, behind.place()))),
         None => Ok(None),
     }
 }

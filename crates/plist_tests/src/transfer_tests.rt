@@ -2,10 +2,8 @@
 use crate::devices::Noting;
 use crate::worked_files::{TABLE, TABLE_TEXT, TRUE, UNSORTED, WRITTEN_TEXT};
 use plist_canon::write_canonical;
-use plist_convert::{
-    Fault, Form, ListSink, ListSource, Sink, Source, canonicalise, convert, read_any,
-};
-use plist_forms::convert_octets;
+use plist_devices::{ListSink, ListSource, Sink, Source};
+use plist_forms::{Fault, Form, canonicalise, convert, convert_octets, read_any};
 use plist_object::BinFile;
 use plist_value::FixedHasher;
 use std::alloc::{AllocError, Global};

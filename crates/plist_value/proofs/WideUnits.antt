@@ -1,7 +1,10 @@
 -- Units of two bytes each, big-endian.
-use Rattle.std.proofs.Common.{◌≡◌, ℕ, zero, suc, ◌+◌, ◌*◌, ◌/◌, ◌<◌, ◌≤◌, List, ◌∷◌, length, slice_index, refl, ⊎_elim, arith}
+use Rattle.std.proofs.Common.{◌≡◌, ℕ, zero, suc, ◌+◌, ◌*◌, ◌/◌, ◌<◌, ◌≤◌, List, [], ◌∷◌, length, nat_eq, slice_index, take, refl, Bool, ◌&&◌, ⊎_elim, arith, Ordering, nat_cmp}
+use Rattle.std.specs.Cmp.Lexicographic.{pointwise, slice_cmp}
+use Rattle.std.specs.Ordering.{ordering_then}
 use Rattle.std.proofs.lemmas.List.{get_or_past}
 use Rattle.std.proofs.lemmas.Bool.{cases_lt}
+use Rattle.std.proofs.lemmas.Bool.Decides.{nat_tests}
 use Rattle.plist_value.specs.Plist.{AreOctets, AreUnits}
 use Rattle.plist_value.specs.Texts.{wide_units}
 
@@ -26,3 +29,41 @@ AreUnits-wide_units xs octets i =
     omega (arith, octets (2 * i), octets (suc (2 * i))))
     (λ (h : length (wide_units xs) ≤ i). let past = get_or_past (wide_units xs) i 0 h in omega arith)
     (cases_lt i (length (wide_units xs)))
+
+-- the order of two units is that of their first bytes, and else that of their second
+pair_cmp : (a b c d : ℕ) (rest : Ordering) → b < 256 → d < 256 → ordering_then (nat_cmp (256 * a + b) (256 * c + d)) rest ≡ ordering_then (nat_cmp a c) (ordering_then (nat_cmp b d) rest)
+pair_cmp a b c d rest low other = grind (arith, nat_tests)
+
+-- units compare as the bytes of whole pairs do
+pub slice_cmp-pairs : (m n : ℕ) (xs ys : List ℕ) → m ≡ length xs / 2 * 2 → n ≡ length ys / 2 * 2 → AreOctets xs → AreOctets ys → slice_cmp nat_cmp (take m xs) (take n ys) ≡ slice_cmp nat_cmp (wide_units xs) (wide_units ys)
+slice_cmp-pairs zero zero [] [] e g h k = refl
+slice_cmp-pairs zero zero [] (y ∷ []) e g h k = refl
+slice_cmp-pairs zero zero (x ∷ []) [] e g h k = refl
+slice_cmp-pairs zero zero (x ∷ []) (y ∷ []) e g h k = refl
+slice_cmp-pairs zero (suc (suc n)) [] (c ∷ d ∷ ys) e g h k = refl
+slice_cmp-pairs zero (suc (suc n)) (x ∷ []) (c ∷ d ∷ ys) e g h k = refl
+slice_cmp-pairs (suc (suc m)) zero (a ∷ b ∷ xs) [] e g h k = refl
+slice_cmp-pairs (suc (suc m)) zero (a ∷ b ∷ xs) (y ∷ []) e g h k = refl
+slice_cmp-pairs (suc (suc m)) (suc (suc n)) (a ∷ b ∷ xs) (c ∷ d ∷ ys) e g h k =
+    let rest = slice_cmp-pairs m n xs ys (omega arith) (omega arith) (λ i. h (suc (suc i))) (λ i. k (suc (suc i))) in
+    rw (rest, pair_cmp a b c d (slice_cmp nat_cmp (wide_units xs) (wide_units ys)) (h 1) (k 1)) refl
+slice_cmp-pairs _ _ _ _ e g h k = absurd (omega arith)
+
+-- two units are equal if their first bytes are, and their second
+pair_eq : (a b c d : ℕ) (rest : Bool) → b < 256 → d < 256 → (nat_eq (256 * a + b) (256 * c + d) && rest) ≡ (nat_eq a c && (nat_eq b d && rest))
+pair_eq a b c d rest low other = grind (arith, nat_tests)
+
+-- units are equal if the bytes of whole pairs are
+pub pointwise-pairs : (m n : ℕ) (xs ys : List ℕ) → m ≡ length xs / 2 * 2 → n ≡ length ys / 2 * 2 → AreOctets xs → AreOctets ys → pointwise nat_eq (take m xs) (take n ys) ≡ pointwise nat_eq (wide_units xs) (wide_units ys)
+pointwise-pairs zero zero [] [] e g h k = refl
+pointwise-pairs zero zero [] (y ∷ []) e g h k = refl
+pointwise-pairs zero zero (x ∷ []) [] e g h k = refl
+pointwise-pairs zero zero (x ∷ []) (y ∷ []) e g h k = refl
+pointwise-pairs zero (suc (suc n)) [] (c ∷ d ∷ ys) e g h k = refl
+pointwise-pairs zero (suc (suc n)) (x ∷ []) (c ∷ d ∷ ys) e g h k = refl
+pointwise-pairs (suc (suc m)) zero (a ∷ b ∷ xs) [] e g h k = refl
+pointwise-pairs (suc (suc m)) zero (a ∷ b ∷ xs) (y ∷ []) e g h k = refl
+pointwise-pairs (suc (suc m)) (suc (suc n)) (a ∷ b ∷ xs) (c ∷ d ∷ ys) e g h k =
+    let rest = pointwise-pairs m n xs ys (omega arith) (omega arith) (λ i. h (suc (suc i))) (λ i. k (suc (suc i))) in
+    rw (rest, pair_eq a b c d (pointwise nat_eq (wide_units xs) (wide_units ys)) (h 1) (k 1)) refl
+pointwise-pairs _ _ _ _ e g h k = absurd (omega arith)

@@ -14,3 +14,4 @@ pub mod Laws
 pub mod Rows
 pub mod Refusals
 pub mod Digits
+pub mod Writable

@@ -1,6 +1,6 @@
 //! Borrowed strings.
-ghost use Rattle.std.specs.Prelude.{◌≡◌, ◌<◌, ◌%◌, ◌↔◌, IsSome};
-ghost use Rattle.std.specs.Prelude.{IfSome, All, true, nat_eq, nat_lt, length, slice_index};
+ghost use Rattle.std.specs.Prelude.{◌≡◌, ◌<◌, ◌*◌, ◌/◌, ◌%◌, ◌↔◌, IsSome, IfSome, All, true};
+ghost use Rattle.std.specs.Prelude.{nat_eq, nat_lt, length, slice_index, take};
 ghost use Rattle.std.specs.List.{list_all};
 ghost use Rattle.std.specs.Ordering.{nat_cmp, on, as_partial_cmp};
 ghost use Rattle.std.specs.Cmp.{partial_order_from_own_ties};
@@ -203,6 +203,7 @@ impl<'a> PartialEq for TextRef<'a> {
         match (self.kept, other.kept) {
             (Kept::Units(units), Kept::Units(others)) => units == others,
             (Kept::Ascii(ascii), Kept::Ascii(other)) => ascii.text == other.text,
+            (Kept::Wide(octets), Kept::Wide(others)) => same_pairs(octets, others),
             _ => same_units(self, other),
         }
     }
@@ -226,6 +227,7 @@ impl<'a> Ord for TextRef<'a> {
         match (self.kept, other.kept) {
             (Kept::Units(units), Kept::Units(others)) => units.cmp(others),
             (Kept::Ascii(ascii), Kept::Ascii(other)) => ascii.text.cmp(other.text),
+            (Kept::Wide(octets), Kept::Wide(others)) => compare_pairs(octets, others),
             _ => compare_units(self, other),
         }
     }
@@ -256,6 +258,26 @@ impl<'a> Hash for TextRef<'a> {
             feed_text(self, state);
         }
     }
+}
+
+fn same_pairs(octets: &[u8], others: &[u8]) -> bool
+    ensures { result ≡ pointwise nat_eq (wide_units octets.now) (wide_units others.now) }
+{
+    whole_pairs(octets) == whole_pairs(others)
+}
+
+// Big-endian units have the order of their bytes.
+fn compare_pairs(octets: &[u8], others: &[u8]) -> Ordering
+    ensures { result ≡ slice_cmp nat_cmp (wide_units octets.now) (wide_units others.now) }
+{
+    whole_pairs(octets).cmp(&whole_pairs(others))
+}
+
+// Returns the bytes without an odd one at the end, which is part of no unit.
+fn whole_pairs(octets: &[u8]) -> &[u8]
+    ensures { result.now ≡ take (length octets.now / 2 * 2) octets.now }
+{
+    &octets[..octets.len() / 2 * 2]
 }
 
 // Works for each way of storing the strings; slices of the same kind are compared faster.

@@ -6,9 +6,7 @@ use Rattle.plist_canon.specs.Checking.{IsVerdict}
 use Rattle.plist_canon.specs.Locality.{IsCanonical}
 use Rattle.plist_canon.specs.declared.checking.Verdict.{Verdict}
 use Rattle.plist_canon.specs.declared.checking.Verdict.TheVariants.{Canonical, Broken}
-use Rattle.plist_forms.specs.Accepted.{IsCanonicalOf}
 use Rattle.plist_forms.specs.Pair.{IsPair}
-use Rattle.plist_forms.specs.Printed.{IsPrintOf}
 use Rattle.plist_forms.specs.declared.faults.Fault.{Fault}
 use Rattle.plist_forms.specs.declared.faults.Fault.TheVariants.{OutOfMemory, WriteFailed}
 use Rattle.plist_forms.specs.declared.loading.TheConstants.{MAX_INPUT}
@@ -18,23 +16,29 @@ use Rattle.plistconv_c.specs.Refusals.{no_refusal, refusal_of}
 use Rattle.plistconv_c.specs.declared.checking.Finding.{Finding}
 use Rattle.plistconv_c.specs.declared.refusals.Refusal.{Refusal}
 
--- the canonical file of the input's value is in the buffer
-pub record IsCanonicalGiven (octets before after : List ℕ) (count : ℕ)
+-- the output for the input is in the buffer
+pub record IsMade (Makes : List ℕ → List ℕ → Type 0) (octets before after : List ℕ) (count : ℕ)
     (reported : Refusal) : Type 0 where
   pub within : length octets ≤ MAX_INPUT
-  pub file : List ℕ
-  pub canonical : IsCanonicalOf octets file
-  pub given : IsGiven file before after count
+  pub output : List ℕ
+  pub of : Makes octets output
+  pub given : IsGiven output before after count
   pub none : reported ≡ no_refusal
 
--- the printed text of the input's value is in the buffer
-pub record IsPrintGiven (octets before after : List ℕ) (count : ℕ)
-    (reported : Refusal) : Type 0 where
-  pub within : length octets ≤ MAX_INPUT
-  pub text : List ℕ
-  pub of : IsPrintOf octets text
-  pub given : IsGiven text before after count
-  pub none : reported ≡ no_refusal
+-- the refusal describes the fault of the first input, and the buffer is unchanged
+pub record IsDescribed (fault : Fault) (before after : List ℕ) (count : ℕ) (reported : Refusal)
+    (number : ℕ) : Type 0 where
+  pub reported_is : reported ≡ refusal_of fault 1
+  pub number_reported : number ≡ reported.number
+  pub kept : after ≡ before
+  pub nothing : count ≡ 0
+
+-- there is no output for this cause, the refusal describes it, and the buffer is unchanged
+pub record IsUnmade (Cause : Fault → Type 0) (before after : List ℕ) (count : ℕ)
+    (reported : Refusal) (number : ℕ) : Type 0 where
+  pub fault : Fault
+  pub cause : Cause fault
+  pub described : IsDescribed fault before after count reported number
 
 -- the refusal of a call that gathers its output: a put fails only if memory runs out
 abbrev pub gathered_fault : Fault → Fault
@@ -54,13 +58,6 @@ pub record IsRefusalReported (octets : List ℕ) (reported : Refusal) (number : 
   pub refused : IsInputRefused octets fault
   pub reported_is : reported ≡ refusal_of fault 1
   pub number_reported : number ≡ reported.number
-
--- the input is refused, and the buffer is unchanged
-pub record IsRefusedWhole (octets before after : List ℕ) (count : ℕ) (reported : Refusal)
-    (number : ℕ) : Type 0 where
-  pub input : IsRefusalReported octets reported number
-  pub kept : after ≡ before
-  pub nothing : count ≡ 0
 
 -- 1 for yes, 0 for no
 abbrev pub number_of : Bool → ℕ

@@ -3,12 +3,11 @@ ghost use Rattle.std.specs.Prelude.{◌≡◌, ◌≢◌, ◌≤◌, length, IfO
 ghost use Rattle.plist_forms.specs.Accepted.{IsCanonicalOf};
 ghost use Rattle.plist_forms.specs.Pair.{IsPair};
 ghost use Rattle.plist_forms.specs.declared.loading.TheConstants.{MAX_INPUT};
-ghost use Rattle.plistconv_c.specs.Answers.{IsCanonicalGiven, IsCompared};
-ghost use Rattle.plistconv_c.specs.Answers.{IsRefusedPair, IsRefusedWhole};
+ghost use Rattle.plistconv_c.specs.Answers.{IsCompared, IsMade, IsRefusedPair, IsUnmade};
 ghost use Rattle.plistconv_c.specs.Inputs.{IsInputRefused, IsPairRefused};
 
 use crate::Refusal;
-use crate::giving::give;
+use crate::giving::give_output;
 use crate::inputs::{admit, admit_pair};
 use crate::keys::keyed_hasher;
 use plist_forms::{
@@ -33,16 +32,11 @@ pub extern "C" fn plistconv_canonical(
     refusal: &mut Refusal,
 ) -> u8
     ensures given { result ≡ 0
-        → IsCanonicalGiven octets.now into.old into.new length.new refusal.new }
+        → IsMade IsCanonicalOf octets.now into.old into.new length.new refusal.new }
     ensures refused { result ≢ 0
-        → IsRefusedWhole octets.now into.old into.new length.new refusal.new result }
+        → IsUnmade (IsInputRefused octets.now) into.old into.new length.new refusal.new result }
 {
-    *length = 0;
-    *refusal = Refusal::none();
-    match canonical_file(alloc, octets, key) {
-        Ok(file) => give(&file, into, length),
-        Err(fault) => refusal.set(&fault, 1),
-    }
+    give_output(canonical_file(alloc, octets, key), into, length, refusal)
 }
 
 // Returns the canonical file of the value of `octets`. Refuses more than `MAX_INPUT` bytes.

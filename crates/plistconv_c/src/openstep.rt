@@ -3,11 +3,12 @@ ghost use Rattle.std.specs.Prelude.{◌≡◌, ◌≢◌, ◌≤◌, length, IfO
 ghost use Rattle.plist_forms.specs.Output.{IsOutput};
 ghost use Rattle.plist_forms.specs.declared.forms.Form.TheVariants.{OpenStep};
 ghost use Rattle.plist_forms.specs.declared.loading.TheConstants.{MAX_INPUT};
-ghost use Rattle.plistconv_c.specs.Texts.{IsTextFault, IsTextGiven, IsTextRefused};
+ghost use Rattle.plistconv_c.specs.Answers.{IsMade, IsUnmade};
+ghost use Rattle.plistconv_c.specs.Texts.{IsTextFault};
 
 use crate::Refusal;
 use crate::gathering::{Gathering, unsent};
-use crate::giving::give;
+use crate::giving::give_output;
 use crate::inputs::admit;
 use plist_forms::{Fault, write_openstep};
 use std::alloc::Global;
@@ -28,16 +29,11 @@ pub extern "C" fn plistconv_text(
     refusal: &mut Refusal,
 ) -> u8
     ensures given { result ≡ 0
-        → IsTextGiven octets.now into.old into.new length.new refusal.new }
+        → IsMade (IsOutput OpenStep) octets.now into.old into.new length.new refusal.new }
     ensures refused { result ≢ 0
-        → IsTextRefused octets.now into.old into.new length.new refusal.new result }
+        → IsUnmade (IsTextFault octets.now) into.old into.new length.new refusal.new result }
 {
-    *length = 0;
-    *refusal = Refusal::none();
-    match written_text(alloc, octets) {
-        Ok(text) => give(&text, into, length),
-        Err(fault) => refusal.set(&fault, 1),
-    }
+    give_output(written_text(alloc, octets), into, length, refusal)
 }
 
 // Returns the OpenStep text of the value of `octets`. Refuses more than `MAX_INPUT` bytes.

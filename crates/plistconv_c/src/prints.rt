@@ -2,12 +2,12 @@
 ghost use Rattle.std.specs.Prelude.{◌≡◌, ◌≢◌, ◌≤◌, length, IfOk, IfErr, OnOk};
 ghost use Rattle.plist_forms.specs.Printed.{IsPrintOf};
 ghost use Rattle.plist_forms.specs.declared.loading.TheConstants.{MAX_INPUT};
-ghost use Rattle.plistconv_c.specs.Answers.{IsPrintGiven, IsRefusedWhole};
+ghost use Rattle.plistconv_c.specs.Answers.{IsMade, IsUnmade};
 ghost use Rattle.plistconv_c.specs.Inputs.{IsInputRefused};
 
 use crate::Refusal;
 use crate::gathering::{Gathering, unsent};
-use crate::giving::give;
+use crate::giving::give_output;
 use crate::inputs::admit;
 use plist_forms::{Fault, print};
 use std::alloc::Global;
@@ -28,16 +28,11 @@ pub extern "C" fn plistconv_print(
     refusal: &mut Refusal,
 ) -> u8
     ensures given { result ≡ 0
-        → IsPrintGiven octets.now into.old into.new length.new refusal.new }
+        → IsMade IsPrintOf octets.now into.old into.new length.new refusal.new }
     ensures refused { result ≢ 0
-        → IsRefusedWhole octets.now into.old into.new length.new refusal.new result }
+        → IsUnmade (IsInputRefused octets.now) into.old into.new length.new refusal.new result }
 {
-    *length = 0;
-    *refusal = Refusal::none();
-    match printed_text(alloc, octets) {
-        Ok(text) => give(&text, into, length),
-        Err(fault) => refusal.set(&fault, 1),
-    }
+    give_output(printed_text(alloc, octets), into, length, refusal)
 }
 
 // Returns the printed text of the value of `octets`. Refuses more than `MAX_INPUT` bytes.

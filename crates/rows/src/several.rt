@@ -1,7 +1,7 @@
 //! The lines of the program for several inputs.
 use crate::octets::shown;
 use crate::row::Row;
-use plist_convert::{MemoryDisk, run_on};
+use plist_convert::{FileDisk, MemoryFiles, run_on};
 use plist_devices::{ListSink, ListSource};
 use plist_value::FixedHasher;
 use std::alloc::{AllocError, Global};
@@ -11,15 +11,16 @@ const ROOM: usize = 4096;
 
 /// Returns the line for a command on the inputs as files: what it prints, and the exit status.
 pub(crate) fn answer_several(alloc: Global, word: &str, row: &Row) -> Result<String, AllocError> {
-    let mut disk = MemoryDisk::new(alloc, ROOM, ROOM);
+    let mut files = MemoryFiles::new(alloc);
     let mut words = Vec::new(alloc);
     words.push("plistconv")?;
     words.push(word)?;
     for (place, input) in row.inputs.iter().enumerate() {
         let path = path_of(place);
         words.push(path)?;
-        disk.put(alloc, path, Vec::from_slice(alloc, input.as_slice())?)?;
+        files.put(alloc, path, Vec::from_slice(alloc, input.as_slice())?)?;
     }
+    let mut disk = FileDisk::over(files, FixedHasher::new());
     let mut input = ListSource::new(b"", 1, None);
     let mut output = ListSink::new(alloc, ROOM, ROOM)?;
     let status = run_on(

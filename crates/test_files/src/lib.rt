@@ -1,5 +1,8 @@
-//! Small binary files, made byte by byte and not by the code under test.
+//! Small binary files, made byte by byte and not by the code under test, and devices that fail.
 #![tactic(auto)]
+
+pub mod devices;
+pub mod worked_files;
 
 use std::alloc::{AllocError, Global};
 

@@ -1,6 +1,7 @@
 use Rattle.std.proofs.Common.{◌≡◌, ◌++◌, drop}
 use Rattle.plist_value.specs.View.{view_items, view_pairs}
-use Rattle.ostep_text.specs.Written.{written_items, written_pairs, are_writable_items, are_writable_pairs}
+use Rattle.plist_value.specs.Writable.{are_writable_items, are_writable_pairs}
+use Rattle.ostep_text.specs.Written.{written_items, written_pairs}
 use Rattle.ostep_text.proofs.writing.+put.Given as goal
 
 -- the bytes so far, followed by the remaining items, are everything, and the remaining items decide

@@ -13,23 +13,23 @@ returns-in_err-objects-clause-written g c = λ v binary.
 
 pub send_file-requires-clause-few : goal.send_file-requires-clause-few
 send_file-requires-clause-few g c =
-    few-objects (octets_of c.args.file.now) c.requires.binary.0 c.requires.binary.1 c.in_ok-objects.objects (c.in_ok-objects.ensures c.requires.binary.0 c.requires.binary.1)
+    few-objects (octets_of c.args.judged.file) c.requires.binary.0 c.requires.binary.1 c.in_ok-objects.objects (c.in_ok-objects.ensures c.requires.binary.0 c.requires.binary.1)
 
 pub send_file-requires-clause-sound : goal.send_file-requires-clause-sound
 send_file-requires-clause-sound g c =
-    sound-objects (octets_of c.args.file.now) c.requires.binary.0 c.requires.binary.1 c.in_ok-objects.objects (c.in_ok-objects.ensures c.requires.binary.0 c.requires.binary.1)
+    sound-objects (octets_of c.args.judged.file) c.requires.binary.0 c.requires.binary.1 c.in_ok-objects.objects (c.in_ok-objects.ensures c.requires.binary.0 c.requires.binary.1)
 
 pub send_file-requires-clause-spellable : goal.send_file-requires-clause-spellable
 send_file-requires-clause-spellable g c =
-    spellable-objects (octets_of c.args.file.now) c.requires.binary.0 c.requires.binary.1 c.in_ok-objects.objects (c.in_ok-objects.ensures c.requires.binary.0 c.requires.binary.1)
+    spellable-objects (octets_of c.args.judged.file) c.requires.binary.0 c.requires.binary.1 c.in_ok-objects.objects (c.in_ok-objects.ensures c.requires.binary.0 c.requires.binary.1)
 
 pub send_file-requires-clause-short : goal.send_file-requires-clause-short
 send_file-requires-clause-short g c =
-    short-objects (octets_of c.args.file.now) c.requires.binary.0 c.requires.binary.1 c.in_ok-objects.objects (c.in_ok-objects.ensures c.requires.binary.0 c.requires.binary.1)
+    short-objects (octets_of c.args.judged.file) c.requires.binary.0 c.requires.binary.1 c.in_ok-objects.objects (c.in_ok-objects.ensures c.requires.binary.0 c.requires.binary.1)
 
 pub returns-clause-written : goal.returns-clause-written
 returns-clause-written g c = λ v binary.
-    let same = is-canon (octets_of c.args.file.now) v binary c.in_ok-objects.objects (c.in_ok-objects.ensures v binary) in
+    let same = is-canon (octets_of c.args.judged.file) v binary c.in_ok-objects.objects (c.in_ok-objects.ensures v binary) in
     rw (sym same) c.send_file.ensures.written
 
 pub returns-in_err-objects-clause-pieces : goal.returns-in_err-objects-clause-pieces
@@ -37,5 +37,5 @@ returns-in_err-objects-clause-pieces g c = λ v binary most allows before. befor
 
 pub returns-clause-pieces : goal.returns-clause-pieces
 returns-clause-pieces g c = λ v binary.
-    let e = are-objects (octets_of c.args.file.now) v binary c.in_ok-objects.objects (c.in_ok-objects.ensures v binary) in
+    let e = are-objects (octets_of c.args.judged.file) v binary c.in_ok-objects.objects (c.in_ok-objects.ensures v binary) in
     rw (sym e) c.send_file.ensures.pieces

@@ -12,7 +12,7 @@ returns-in_err-write_whole-clause-written g c = λ v binary.
 
 pub returns-in_err-write_whole-clause-same : goal.returns-in_err-write_whole-clause-same
 returns-in_err-write_whole-clause-same g c =
-    let stays = (c.in_err-write_whole.ensures.goes c.requires.0 c.requires.1).stays.device in
+    let stays = (c.in_err-write_whole.ensures.goes c.requires.binary.0 c.requires.binary.1).stays.device in
     first_of (search (rules, stays), grind (arith, stays))
 
 pub returns-clause-written : goal.returns-clause-written
@@ -22,5 +22,5 @@ returns-clause-written g c = λ v binary.
 
 pub returns-clause-same : goal.returns-clause-same
 returns-clause-same g c =
-    let stays = (c.in_ok-write_whole.ensures.goes c.requires.0 c.requires.1).stays.device in
+    let stays = (c.in_ok-write_whole.ensures.goes c.requires.binary.0 c.requires.binary.1).stays.device in
     first_of (search (rules, stays), grind (arith, stays))

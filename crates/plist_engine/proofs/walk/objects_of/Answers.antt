@@ -9,11 +9,11 @@ use Rattle.plist_engine.proofs.walk.objects_of.Goals as goal
 
 pub walk-requires-clause-spells : goal.walk-requires-clause-spells
 walk-requires-clause-spells g c =
-    let binary = c.requires.1 in
+    let binary = c.requires.binary.1 in
     record {
-      value = c.requires.0;
+      value = c.requires.binary.0;
       valid = binary.valid;
-      spells = subst (λ (i : ℕ). Spells (octets_of c.args.file.now) i c.requires.0) (sym c.top.ensures.value) binary.spells;
+      spells = subst (λ (i : ℕ). Spells (octets_of c.args.file.now) i c.requires.binary.0) (sym c.top.ensures.value) binary.spells;
       deep = binary.fits.depth_fits;
     }
 
@@ -31,6 +31,3 @@ returns g c = λ v binary.
 
 pub walk-requires-clause-knows : goal.walk-requires-clause-knows
 walk-requires-clause-knows g c = c.in_ok-plan.ensures.knows
-
-pub walk-requires-clause-ready : goal.walk-requires-clause-ready
-walk-requires-clause-ready g c = c.new-order.ensures (octets_of c.args.file.now)

@@ -1,4 +1,4 @@
-use Rattle.std.proofs.Common.{ℕ, ◌*◌, ◌<◌, length, min, replicate, rules, arith}
+use Rattle.std.proofs.Common.{ℕ, ◌*◌, ◌<◌, min, rules, arith}
 use Rattle.std.proofs.lemmas.Bool.Decides.{nat_tests}
 use Rattle.std.proofs.lemmas.List.{length-replicate}
 use Rattle.plist_engine.specs.Output.{state_of}

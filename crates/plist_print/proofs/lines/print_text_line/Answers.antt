@@ -1,11 +1,17 @@
-use Rattle.std.proofs.Common.{[], ◌++◌}
 use Rattle.std.specs.Prelude.{codes}
+use Rattle.std.proofs.lemmas.Result.{err_from_is_err_and}
 use Rattle.plist_value.specs.Texts.{units_of}
-use Rattle.plist_print.specs.Units.{printed_text}
 use Rattle.plist_engine.specs.Output.{state_of}
-use Rattle.plist_engine.proofs.Steps.{ended-some, unbuffered}
+use Rattle.plist_engine.proofs.Going.{Goes_then, Goes_stop}
+use Rattle.plist_print.specs.Units.{printed_text}
 use Rattle.plist_print.proofs.lines.print_text_line.Goals as goal
 
-pub returns-in_err-grown : goal.returns-in_err-grown
-returns-in_err-grown g c =
-    record { goes = unbuffered (printed_text (units_of c.args.text.now) ++ codes "\n") c.put_text_line-put.new.out.items (state_of g.W.Sink c.args.out.now) _ c.from_residual.result c.from_residual.ensures.1 c.in_err-grown.ensures.refused.1 (ended-some (printed_text (units_of c.args.text.now)) 10 []) }
+pub returns-in_err-print_text : goal.returns-in_err-print_text
+returns-in_err-print_text g c =
+    let e = err_from_is_err_and c.from_residual.result c.from_residual.ensures.1 in
+    rw (e.1, e.2) (record { goes = Goes_stop (printed_text (units_of c.args.text.now)) (codes "\n") (state_of g.W.Sink c.args.out.now) (state_of g.W.Sink c.print_text.new.out) _ c.in_err-print_text.ensures.goes })
+
+pub returns : goal.returns
+returns g c = record {
+  goes = Goes_then (printed_text (units_of c.args.text.now)) (codes "\n") (state_of g.W.Sink c.args.out.now) (state_of g.W.Sink c.print_text.new.out) (state_of g.W.Sink c.put.new.self) _ c.put.result c.in_ok-print_text.ensures.goes c.put.ensures.goes;
+}

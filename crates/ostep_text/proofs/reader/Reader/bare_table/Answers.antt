@@ -1,69 +1,110 @@
-use Rattle.std.proofs.Common.{◌≡◌, ◌∷◌, ◌++◌, [], false, refl, ap, ◌∙◌}
-use Rattle.plist_value.specs.Plist.{no_pairs, pair, table}
+use Rattle.std.proofs.Common.{◌≡◌, ℕ, List, ◌∷◌, ◌++◌, [], false, sym, subst, ◌∙◌}
+use Rattle.std.proofs.lemmas.Result.{IfOk-weaker}
+use Rattle.plist_value.specs.Plist.{Plist, no_pairs, pair, table}
 use Rattle.plist_value.proofs.Pairs.{put_pair}
-use Rattle.ostep_lex.specs.Lexeme.{placed, lexeme_of}
-use Rattle.ostep_text.specs.Sorting.{has_key, first}
-use Rattle.ostep_text.proofs.SortingSteps.{put-stands, put-ascends}
+use Rattle.ostep_lex.specs.Lexeme.{Placed, text as string}
+use Rattle.ostep_text.specs.First.{first_placed, is_string}
+use Rattle.ostep_text.specs.declared.fault.TextFault.TheVariants.{Junk}
+use Rattle.ostep_text.specs.Sorting.{has_key, StandsAmong, first}
+use Rattle.plist_draft.specs.View.{objects}
+use Rattle.ostep_text.proofs.SortingSteps.{put-stands}
+use Rattle.ostep_text.proofs.DraftSteps.{keeps-all, rows-none, rows-more, rows-even, none-even, keys-more, known-is, no-memory}
 use Rattle.ostep_lex.specs.Lexing.{HasTokens}
 use Rattle.ostep_text.specs.Begun.{nothing, opened}
 use Rattle.ostep_text.specs.Stands.{Stands}
 use Rattle.ostep_text.specs.Machine
-use Rattle.ostep_text.specs.Reading.{HasRead}
+use Rattle.ostep_text.specs.Reading.{HasRead, StandsIfLexed}
 use Rattle.ostep_lex.proofs.Exits.{passed_on}
 use Rattle.ostep_text.proofs.Standing.{junk-at}
 use Rattle.ostep_text.proofs.TakeSteps.{rows-left}
 use Rattle.ostep_text.proofs.MachineLemmas.{bare-ended}
 use Rattle.ostep_text.proofs.BareSteps.{bare-first, bare-more, bare-phrase, bare-text, bare-ends}
 use Rattle.ostep_text.proofs.reader.Reader.bare_table.Goals as goal
+use Rattle.ostep_text.proofs.reader.Reader.bare_table.Goals.{In-Some, In-Some-key}
+
+alone : (key : List ℕ) (v : Plist) → StandsAmong key v no_pairs (pair key v no_pairs)
+alone key v = first
 
 pub loop-rows-init : goal.loop-rows-init
-loop-rows-init g c octets left v m i t r =
-    (pair c.args.key v no_pairs, c.in_ok-add_row.ensures no_pairs (pair c.args.key v no_pairs) v c.no_rows-rows.ensures m first (tt, tt), bare-first c.args.self.now t r)
+loop-rows-init c = record {
+  even = rows-even c.new-rows.result c.push.new.self c.args.row c.in_ok-push.ensures.keys c.in_ok-push.ensures.values (none-even c.new-rows.result c.new-rows.ensures.keys c.new-rows.ensures.values);
+  built = λ octets left v m i t r.
+      let helds = objects c.args.self.now.draft in (
+        pair c.args.key v no_pairs,
+        (
+          rows-more helds helds c.new-rows.result c.push.new.self c.args.row c.in_ok-push.ensures.keys c.in_ok-push.ensures.values
+              (none-even c.new-rows.result c.new-rows.ensures.keys c.new-rows.ensures.values) (keeps-all helds)
+              (rows-none helds c.new-rows.result c.new-rows.ensures.keys c.new-rows.ensures.values) m first,
+          keys-more c.new-keys.result c.insert.new.self (λ key. c.new-keys.ensures key) (alone c.args.key v) c.in_ok-insert.ensures,
+        ),
+        bare-first c.args.self.now t r,
+      );
+}
 
-pub returns-in_err-token-clause-stands : goal.returns-in_err-token-clause-stands
-returns-in_err-token-clause-stands g c octets left v m i t r =
-    let p = c.loop-rows.invariant octets left v m i t r in
+pub returns-in_err-first-clause-stands : goal.returns-in_err-first-clause-stands
+returns-in_err-first-clause-stands c octets left v m i t r =
+    let p = c.loop-rows.invariant.built octets left v m i t r in
     let b = p.2 in
-    passed_on (Stands octets) c.in_err-token.field-0.0 c.from_residual-in_err-token.result c.from_residual-in_err-token.ensures.1 (c.in_err-token.ensures.stands octets b.tokens b.has)
+    passed_on (Stands octets) c.in_err-first.field-0.0 c.from_residual-in_err-first.result c.from_residual-in_err-first.ensures.1 (c.in_err-first.ensures.stands octets b.tokens b.has)
 
-pub returns-in_err-value-in-Text-clause-stands : goal.returns-in_err-value-in-Text-clause-stands
-returns-in_err-value-in-Text-clause-stands g c octets left v m i t r =
-    let p = c.loop-rows.invariant octets left v m i t r in
+-- the key
+key-is : (c : In-Some-key) → (first_placed c.in-Some.first).lexeme ≡ string c.in-Some-key.key
+key-is c = c.in-Some-key.ensures
+
+first-read : (c : In-Some) (octets : List ℕ) (tokens : List Placed) → HasRead octets tokens c.loop-rows.self.tokens → HasRead octets (tokens ++ first_placed c.in-Some.first ∷ []) c.next_first.new.self
+first-read c octets tokens h = rw c.in-Some.is at (c.in_ok-first.ensures.read octets tokens h)
+
+pub returns-in_err-row-clause-stands : goal.returns-in_err-row-clause-stands
+returns-in_err-row-clause-stands c octets left v m i t r =
+    let at = goal.at.returns-in_err-row-clause-stands c in
+    let p = c.loop-rows.invariant.built octets left v m i t r in
     let b = p.2 in
-    let token = placed c.in-Some.token in
-    let has : HasRead octets (b.tokens ++ token ∷ []) c.next.new.self = rw c.in-Some.is at (c.in_ok-token.ensures.read octets b.tokens b.has) in
-    passed_on (Stands octets) c.in_err-value-in-Text.field-0.0 c.from_residual-in_err-value-in-Text.result c.from_residual-in_err-value-in-Text.ensures.1
-    ((rw c.in-Text.is at c.in_err-value-in-Text.ensures.stands) octets b.tokens token b.whole (opened nothing) Machine.bare b.rows p.0 (ap lexeme_of c.in-Text.is) refl b.before has b.due
-    (rw c.in-Text.is at (c.has_row-known.ensures p.0 p.1)) (rows-left i b.taken b.due.sorted.same))
+    let key = c.in-Some-key.key in
+    passed_on (Stands octets) c.in_err-row.field-0.0 c.from_residual-in_err-row.result c.from_residual-in_err-row.ensures.1
+    (c.in_err-row.ensures.stands octets b.tokens (first_placed c.in-Some.first) b.whole (opened nothing) Machine.bare b.rows p.0 (key-is at.In-Some-key) (sym c.start-octet.ensures) b.before
+    (first-read at.In-Some octets b.tokens b.has) b.due (known-is c.loop-rows.keys p.0 key p.1.1 c.contains-known.ensures) (rows-left i b.taken b.due.sorted.same))
 
 pub loop-rows-preserved : goal.loop-rows-preserved
-loop-rows-preserved g c octets left v m i t r =
-    let p = c.loop-rows.invariant octets left v m i t r in
-    let b = p.2 in
-    let token = placed c.in-Some.token in
-    let has : HasRead octets (b.tokens ++ token ∷ []) c.next.new.self = rw c.in-Some.is at (c.in_ok-token.ensures.read octets b.tokens b.has) in
-    let key = c.in-Text.key in
-    let once : has_key key p.0 ≡ false = (rw c.in-Text.is at (c.has_row-known.ensures p.0 p.1)) ∙ c.in_ok-value-in-Text.ensures.once in
-    let row = rw c.in-Text.is at c.in_ok-value-in-Text.ensures.built in (
-      put_pair key row.meant p.0,
-      (rw c.in-Text.is at c.in_ok-add_row-in-Text.ensures) p.0 (put_pair key row.meant p.0) row.meant p.1 row.means_it (put-stands key row.meant p.0 once)
-          (put-ascends key row.meant p.0 b.due.sorted.ascending once),
-      bare-more c.row.new.self b row.taken once (row.read octets b.tokens token (ap lexeme_of c.in-Text.is) has),
-    )
+loop-rows-preserved c =
+    let at = goal.at.loop-rows-preserved c in
+    record {
+      even = rows-even c.loop-rows.rows c.push-in-Some.new.self c.in_ok-row.row c.in_ok-push-2.ensures.keys c.in_ok-push-2.ensures.values c.loop-rows.invariant.even;
+      built = λ octets left v m i t r.
+          let p = c.loop-rows.invariant.built octets left v m i t r in
+          let b = p.2 in
+          let key = c.in-Some-key.key in
+          let once : has_key key p.0 ≡ false = known-is c.loop-rows.keys p.0 key p.1.1 c.contains-known.ensures ∙ c.in_ok-row.ensures.once in
+          let row = c.in_ok-row.ensures.built in
+          let stands = put-stands key row.meant p.0 once in (
+            put_pair key row.meant p.0,
+            (
+              rows-more (objects c.loop-rows.self.draft) (objects c.row.new.self.draft) c.loop-rows.rows c.push-in-Some.new.self c.in_ok-row.row c.in_ok-push-2.ensures.keys
+                  c.in_ok-push-2.ensures.values c.loop-rows.invariant.even c.in_ok-row.ensures.kept p.1.0 row.means_it stands,
+              keys-more c.loop-rows.keys c.insert-in-Some.new.self p.1.1 stands c.in_ok-insert-2.ensures,
+            ),
+            bare-more c.row.new.self b row.taken once (row.read octets b.tokens (first_placed c.in-Some.first) (key-is at.In-Some-key) (first-read at.In-Some octets b.tokens b.has)),
+          );
+    }
 
-pub returns-in_default-kind-clause-stands : goal.returns-in_default-kind-clause-stands
-returns-in_default-kind-clause-stands g c octets left v m i t r =
-    let p = c.loop-rows.invariant octets left v m i t r in
+pub returns-in_default-key-clause-stands : goal.returns-in_default-key-clause-stands
+returns-in_default-key-clause-stands c octets left v m i t r =
+    let at = goal.at.returns-in_default-key-clause-stands c in
+    let p = c.loop-rows.invariant.built octets left v m i t r in
     let b = p.2 in
-    let token = placed c.in-Some.token in
-    let has : HasRead octets (b.tokens ++ token ∷ []) c.next.new.self = rw c.in-Some.is at (c.in_ok-token.ensures.read octets b.tokens b.has) in
+    let token = first_placed c.in-Some.first in
+    let has = first-read at.In-Some octets b.tokens b.has in
+    let none : is_string token.lexeme ≡ false = c.in_default-key.ensures in
     c.refuse.ensures octets (b.tokens ++ token ∷ []) has
+    (subst (λ x. StandsIfLexed octets (Junk x)) (sym c.start-octet.ensures)
     (junk-at b.tokens token b.whole b.before has b.some (table p.0, bare-phrase b)
-    (bare-ends b token.lexeme (bare-ended c.in-Some.token.kind c.in_default-kind.not-Text)))
+    (bare-ends b token.lexeme (bare-ended token.lexeme none))))
 
 pub returns-clause-read : goal.returns-clause-read
-returns-clause-read g c octets left v m i t r =
-    let p = c.loop-rows.invariant octets left v m i t r in
+returns-clause-read c octets left v m i t r =
+    let p = c.loop-rows.invariant.built octets left v m i t r in
     let b = p.2 in
-    let all : HasTokens octets b.tokens = rw c.in_default.is at (c.in_ok-token.ensures.read octets b.tokens b.has) in
-    (table p.0, c.of_rows.ensures p.0 p.1, bare-text b i all)
+    let all : HasTokens octets b.tokens = rw c.in_default.is at (c.in_ok-first.ensures.read octets b.tokens b.has) in
+    IfOk-weaker c.put_table.result _ _ (λ number s. (table p.0, s p.0 p.1.0, bare-text b i all)) c.put_table.ensures.spells
+
+pub returns-clause-stands : goal.returns-clause-stands
+returns-clause-stands c octets left v m i t r = no-memory octets c.put_table.result c.put_table.ensures.memory

@@ -10,16 +10,16 @@ use Rattle.ostep_text.proofs.ReadSteps.{whole-phrase}
 use Rattle.ostep_text.proofs.reader.Reader.finish.Goals as goal
 
 pub returns-in_err-next-clause-stands : goal.returns-in_err-next-clause-stands
-returns-in_err-next-clause-stands g c octets first v r e =
+returns-in_err-next-clause-stands c octets first v r e =
     passed_on (Stands octets) c.in_err-next.field-0.0 c.from_residual.result c.from_residual.ensures.1 (c.in_err-next.ensures.stands octets r.reads.all r.reads.has)
 
 pub returns-in-None-clause-read : goal.returns-in-None-clause-read
-returns-in-None-clause-read g c octets first v m r p f =
+returns-in-None-clause-read c octets first v m r p f =
     let all : HasTokens octets r.reads.all = rw c.in-None.is at (c.in_ok-next.ensures.read octets r.reads.all r.reads.has) in
     (v, m, record { tokens = r.reads.all; has = all; phrase = whole-phrase r; is_plist = p; fits = f })
 
 pub returns-in-Some-clause-stands : goal.returns-in-Some-clause-stands
-returns-in-Some-clause-stands g c octets first v r e =
+returns-in-Some-clause-stands c octets first v r e =
     let token = placed c.in-Some.token in
     let read : HasRead octets (r.reads.all ++ token ∷ []) c.next.new.self = rw c.in-Some.is at (c.in_ok-next.ensures.read octets r.reads.all r.reads.has) in
     c.refuse.ensures octets (r.reads.all ++ token ∷ []) read

@@ -17,6 +17,6 @@ returns-in_err-charge-clause-stands c octets at after l s h i =
 pub returns-clause-stands : goal.returns-clause-stands
 returns-clause-stands c octets at after l s h i =
     let read : HasRead octets (at ∷ after ∷ []) c.charge.new.self.tokens = same-read h c.in_ok-charge.ensures.tokens in
-    let few : c.text_payload.result ≤ 2 * length c.args.key.now = omega (arith, c.text_payload.ensures.payload) in
+    let few : c.payload.result ≤ 2 * length c.args.key.now = omega (arith, c.payload.ensures.payload) in
     let left : IsLeft c.charge.new.self.left 511 (with_rows no_pairs (opened nothing)) = left-after i c.in_ok-charge.ensures.spent (omega arith) (omega arith) (omega arith) in
-    c.charge-2.ensures.stands octets (at ∷ after ∷ []) read (first_key-refuses (after ∷ []) at c.args.octet c.args.key.now 511 c.text_payload.result c.charge.new.self.left l s read few left)
+    c.charge-2.ensures.stands octets (at ∷ after ∷ []) read (first_key-refuses (after ∷ []) at c.args.octet c.args.key.now 511 c.payload.result c.charge.new.self.left l s read few left)

@@ -11,24 +11,24 @@ use Rattle.ostep_text.proofs.BareSteps.{whole-fits, front-due}
 use Rattle.ostep_text.proofs.reader.Reader.value_first.Goals as goal
 
 pub returns-then-not-begins_value-clause-stands : goal.returns-then-not-begins_value-clause-stands
-returns-then-not-begins_value-clause-stands g c octets h i f =
+returns-then-not-begins_value-clause-stands c octets h i f =
     let first = placed c.args.first in
     let none : begins_value (first.lexeme ∷ []) ≡ false = sym c.begins_value.ensures ∙ c.if-not-begins_value.true in
     c.refuse.ensures octets (first ∷ []) h
     (expected-front first h (λ rest. ap (λ s. runs s rest) (f ∙ none-begins Machine.top c.args.first.kind none) ∙ stays-dead rest))
 
 pub returns-in_err-value-clause-stands : goal.returns-in_err-value-clause-stands
-returns-in_err-value-clause-stands g c octets h i f =
+returns-in_err-value-clause-stands c octets h i f =
     let begins : begins_value (lexeme_of c.args.first.kind ∷ []) ≡ true = sym c.begins_value.ensures ∙ c.if-not-begins_value.false in
     passed_on (Stands octets) c.in_err-value.field-0.0 c.from_residual.result c.from_residual.ensures.1
     (c.in_err-value.ensures.stands octets [] (λ rest. rest) nothing Machine.top (λ rest. refl) h (front-due (lexeme_of c.args.first.kind) f begins) i)
 
 pub returns-clause-read : goal.returns-clause-read
-returns-clause-read g c octets h i =
+returns-clause-read c octets h i =
     let b = c.in_ok-value.ensures.built in
     c.finish.ensures.read octets (lexeme_of c.args.first.kind) b.meant b.means_it (b.read octets [] h) b.taken.valid (whole-fits i b.taken)
 
 pub returns-clause-stands : goal.returns-clause-stands
-returns-clause-stands g c octets h i f =
+returns-clause-stands c octets h i f =
     let b = c.in_ok-value.ensures.built in
     c.finish.ensures.stands octets (lexeme_of c.args.first.kind) b.meant (b.read octets [] h) f

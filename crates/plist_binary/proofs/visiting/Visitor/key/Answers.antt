@@ -1,5 +1,5 @@
-use Rattle.std.proofs.Common.{◌≡◌, ◌<◌, ◌∷◌, ◌*◌, Ok, arith, rules, subst, ap, ◌∙◌, length}
-use Rattle.plist_value.specs.Plist.{text}
+use Rattle.std.proofs.Common.{◌≡◌, ◌<◌, ◌∷◌, ◌*◌, Ok, arith, refl, rules, subst, ap, ◌∙◌, length}
+use Rattle.plist_value.specs.Plist.{scalar, text}
 use Rattle.plist_value.specs.Texts.{units_of}
 use Rattle.plist_object.specs.Objects.{Held, holds_scalar, IsHeld}
 use Rattle.plist_object.specs.Places.{what_holds}
@@ -14,6 +14,7 @@ use Rattle.plist_binary.proofs.Beginning.{IsBegun-leads}
 use Rattle.plist_binary.proofs.ItemSteps.{RefusesKey-value, RefusesKey-other}
 use Rattle.plist_binary.proofs.Making.{IsWithinLimits-spent, AreStates-but, AreStates-visited, Reads-scalar, Refuses-payload}
 use Rattle.plist_binary.proofs.PassSteps.{IsKey-read}
+use Rattle.plist_binary.proofs.Writable.{HasText-of, HaveTexts-marked}
 use Rattle.plist_binary.proofs.visiting.Visitor.key.Goals as goal
 
 pub returns-in_err-enter-clause-refused : goal.returns-in_err-enter-clause-refused
@@ -48,6 +49,7 @@ returns-in-Some-clause-progress c =
     let spent = (returns-in-Some-clause-read c).reads.spent in
     record {
       states = so_far.states;
+      texts = so_far.texts;
       last = so_far.last;
       ready = so_far.ready;
       within = IsWithinLimits-spent so_far.within spent;
@@ -80,6 +82,7 @@ returns-clause-progress c =
     let marked = subst (λ (state : State). IsMarked states object state after) c.key.ensures c.in_ok-mark.ensures in
     record {
       states = AreStates-visited f path states after object (Key size) marked known c.in_ok-enter.ensures.new (AreStates-but f path states object so_far.states);
+      texts = HaveTexts-marked f states after object (Key size) _ marked (λ _ _. HasText-of f object (scalar (text read.units)) read.reads.valid read.reads.spells refl) so_far.texts;
       last = so_far.last;
       ready = so_far.ready;
       within = IsWithinLimits-spent so_far.within spent;

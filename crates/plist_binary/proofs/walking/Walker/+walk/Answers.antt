@@ -1,13 +1,16 @@
-use Rattle.std.proofs.Common.{◌≡◌, ◌≤◌, ◌+◌, ◌-◌, ℕ, Ok, take, rules, subst, sym, ◌∙◌, arith}
+use Rattle.std.proofs.Common.{◌≡◌, ◌≤◌, ◌+◌, ◌-◌, ℕ, Bool, true, Ok, take, rules, subst, sym, ap, ◌∙◌, arith}
+use Rattle.std.specs.Prelude.{◌&&◌}
+use Rattle.std.proofs.lemmas.Bool.{and_parts}
 use Rattle.plist_value.specs.Plist.{IsScalar}
 use Rattle.plist_value.specs.View.{items_of}
 use Rattle.plist_value.specs.Scalars.{content_of}
+use Rattle.plist_value.specs.Writable.{is_writable_scalar}
 use Rattle.plist_object.specs.Objects.{holds_scalar, holds_list, holds_table}
 use Rattle.plist_object.specs.Places.{what_holds}
 use Rattle.plist_object.specs.Views.{octets_of, numbers_of}
 use Rattle.plist_binary.specs.declared.memos.State.{State}
-use Rattle.plist_binary.specs.declared.memos.State.TheVariants.{Passed}
-use Rattle.plist_binary.specs.Memos.{IsMarked}
+use Rattle.plist_binary.specs.declared.memos.State.TheVariants.{Open, Passed}
+use Rattle.plist_binary.specs.Memos.{HasText, HaveTexts, IsMarked, IsVisited}
 use Rattle.plist_binary.specs.declared.fault.BinaryFault.TheVariants.{BadReference, TooMuchPayload}
 use Rattle.plist_binary.specs.Passing.{PassesItems}
 use Rattle.plist_binary.specs.Paths.{containers_of}
@@ -16,8 +19,9 @@ use Rattle.plist_binary.proofs.Beginning.{AreNext-items, AreNext-leads, AreNext-
 use Rattle.plist_binary.proofs.ItemSteps.{Contains-at, RefusesItems-next, RefusesItems-none}
 use Rattle.plist_binary.proofs.Making.{IsWithinLimits-spent, IsProgress-last, Refuses-payload, Refuses-list, Refuses-table, AreStates-open, AreStates-visited, AreStates-but}
 use Rattle.plist_binary.proofs.Entering.{length-values}
-use Rattle.plist_binary.proofs.PassSteps.{IsMemo-passed, Passes-scalar, Passes-list, Passes-table, PassesItems-next, PassesPairs-sorted}
+use Rattle.plist_binary.proofs.PassSteps.{IsMemo-passed, Passes-from, Passes-scalar, Passes-list, Passes-table, PassesItems-next, PassesPairs-sorted}
 use Rattle.plist_binary.proofs.TableSteps.{RefusesPairs-values}
+use Rattle.plist_binary.proofs.Writable.{HasText-of, HaveTexts-all, HaveTexts-marked}
 use Rattle.plist_binary.proofs.walking.Walker.+walk.Goals as goal
 
 one_less : (levels : ℕ) → 1 ≤ levels → 1 + (levels - 1) ≡ levels
@@ -37,14 +41,16 @@ content-returns-in_ok-take_payload-in-Scalar-clause-passed t c =
     let s = content_of c.in-Scalar.scalar in
     let reads : what_holds f c.args.object ≡ Ok (holds_scalar s) = rw c.in-Scalar.is at c.in_ok-scalar.ensures.held in
     let valid : IsScalar s = rw c.in-Scalar.is at c.in_ok-scalar.ensures.valid in
-    Passes-scalar f c.args.object c.args.levels c.args.progress.now.left c.enter.new.progress.left c.take_payload.new.left s c.requires.listed reads valid c.in_ok-scalar.ensures.deep c.in_ok-scalar.ensures.spent c.in_ok-take_payload-in-Scalar.ensures.ok
+    Passes-scalar f c.args.object c.args.levels c.args.progress.now.left c.enter.new.progress.left c.take_payload.new.left s c.requires.listed reads valid c.in_ok-scalar.ensures.deep c.in_ok-scalar.ensures.spent c.in_ok-take_payload-in-Scalar.ensures.ok (c.are_writable-progress.ensures ∙ ap (λ (all : Bool). all && is_writable_scalar s) c.in_ok-scalar.ensures.writable)
 
 pub content-returns-in_ok-take_payload-in-Scalar-clause-progress : goal.content-returns-in_ok-take_payload-in-Scalar-clause-progress
 content-returns-in_ok-take_payload-in-Scalar-clause-progress t c =
+    let f = octets_of c.args.self.now.visitor.file in
     let so_far = c.in_ok-scalar.ensures.progress in
     let spent = c.in_ok-take_payload-in-Scalar.ensures.ok in
     record {
-      states = AreStates-but (octets_of c.args.self.now.visitor.file) (containers_of c.args.path.now) c.enter.new.progress.states.items c.args.object so_far.states;
+      states = AreStates-but f (containers_of c.args.path.now) c.enter.new.progress.states.items c.args.object so_far.states;
+      texts = subst (λ (all : Bool). HaveTexts f c.enter.new.progress.states.items all) (sym c.are_writable-progress.ensures) (HaveTexts-all f c.enter.new.progress.states.items c.enter.new.progress.writable (is_writable_scalar (content_of c.in-Scalar.scalar)) so_far.texts);
       last = so_far.last;
       ready = so_far.ready;
       within = IsWithinLimits-spent so_far.within spent;
@@ -61,7 +67,7 @@ content-items-requires t c =
     let next = AreNext-items f path c.args.object refs c.enter.new.progress.left entered record { listed = c.requires.listed; reads = reads } in
     let so_far = c.in_ok-scalar.ensures.progress in
     let open_now = AreStates-open f path c.enter.new.progress.states.items c.mark.new.states.items c.args.object c.in_ok-mark-in-List.ensures so_far.states in
-    (search rules, (next, (omega arith, record { states = open_now; last = so_far.last; ready = so_far.ready; within = so_far.within })))
+    (search rules, (next, (omega arith, record { states = open_now; texts = HaveTexts-marked f c.enter.new.progress.states.items c.mark.new.states.items c.args.object Open _ c.in_ok-mark-in-List.ensures (λ _ none. absurd none) so_far.texts; last = so_far.last; ready = so_far.ready; within = so_far.within })))
 
 pub content-returns-in_err-deep-in-List-clause-refused : goal.content-returns-in_err-deep-in-List-clause-refused
 content-returns-in_err-deep-in-List-clause-refused t c =
@@ -76,13 +82,14 @@ content-returns-in_ok-deep-in-List-clause-passed t c =
     let f = octets_of c.args.self.now.visitor.file in
     let refs = numbers_of c.in-List.items in
     let reads : what_holds f c.args.object ≡ Ok (holds_list refs) = rw c.in-List.is at c.in_ok-scalar.ensures.held in
-    Passes-list f refs c.args.object c.args.levels (c.args.levels - 1) c.args.progress.now.left c.enter.new.progress.left c.items.new.progress.left c.in_ok-deep-in-List.deep (one_less c.args.levels c.in_ok-scalar.ensures.deep) c.requires.listed reads c.in_ok-scalar.ensures.spent c.in_ok-deep-in-List.ensures.passed
+    Passes-from c.in_ok-scalar.ensures.writable (Passes-list f refs c.args.object c.args.levels (c.args.levels - 1) c.args.progress.now.left c.enter.new.progress.left c.items.new.progress.left c.in_ok-deep-in-List.deep (one_less c.args.levels c.in_ok-scalar.ensures.deep) c.requires.listed reads c.in_ok-scalar.ensures.spent c.in_ok-deep-in-List.ensures.passed)
 
 pub content-keys_apart-requires-clause-progress : goal.content-keys_apart-requires-clause-progress
 content-keys_apart-requires-clause-progress t c =
     let so_far = c.in_ok-scalar.ensures.progress in
     record {
       states = AreStates-open (octets_of c.args.self.now.visitor.file) (containers_of c.args.path.now) c.enter.new.progress.states.items c.mark-in-Table.new.states.items c.args.object c.in_ok-mark-in-Table.ensures so_far.states;
+      texts = HaveTexts-marked (octets_of c.args.self.now.visitor.file) c.enter.new.progress.states.items c.mark-in-Table.new.states.items c.args.object Open _ c.in_ok-mark-in-Table.ensures (λ _ none. absurd none) so_far.texts;
       last = so_far.last;
       ready = so_far.ready;
       within = so_far.within;
@@ -134,7 +141,7 @@ content-returns-in_ok-deep-in-Table-clause-passed t c =
     let long = length-values f c.args.object keys values record { listed = c.requires.listed; reads = reads } in
     let read = c.in_ok-keys_apart-in-Table.ensures.read in
     let pairs = PassesPairs-sorted f keys values (c.args.levels - 1) c.enter.new.progress.left c.keys_apart.new.progress.left c.items-in-Table.new.progress.left read.keys read.apart.sorted c.in_ok-deep-in-Table.deep long read.reads c.in_ok-deep-in-Table.ensures.passed read.apart.moved read.apart.ascend in
-    Passes-table f keys values c.args.object c.args.levels (c.args.levels - 1) c.args.progress.now.left c.enter.new.progress.left c.items-in-Table.new.progress.left c.in_ok-deep-in-Table.deep (one_less c.args.levels c.in_ok-scalar.ensures.deep) c.requires.listed reads c.in_ok-scalar.ensures.spent pairs
+    Passes-from (c.in_ok-keys_apart-in-Table.ensures.writable ∙ c.in_ok-scalar.ensures.writable) (Passes-table f keys values c.args.object c.args.levels (c.args.levels - 1) c.args.progress.now.left c.enter.new.progress.left c.items-in-Table.new.progress.left c.in_ok-deep-in-Table.deep (one_less c.args.levels c.in_ok-scalar.ensures.deep) c.requires.listed reads c.in_ok-scalar.ensures.spent pairs)
 
 pub items-returns-in_err-object-clause-refused : goal.items-returns-in_err-object-clause-refused
 items-returns-in_err-object-clause-refused t c =
@@ -164,7 +171,7 @@ items-loop-i-preserved t c =
     let refs = numbers_of c.args.refs in
     let passed = PassesItems-next f refs c.loop-i.i c.in_ok-object.object c.args.levels c.args.progress.now.left c.loop-i.progress.left c.pass.new.progress.left c.loop-i.deepest c.in_ok-deep.deep (omega arith) (c.in_ok-object.ensures.same ∙ c.get.ensures) c.in_ok-object.ensures.below c.loop-i.invariant.passed c.in_ok-deep.ensures.passed in
     record {
-      passed = subst (λ (deepest : ℕ). PassesItems f (take (c.loop-i.i + 1) refs) c.args.levels c.args.progress.now.left deepest c.pass.new.progress.left) (sym c.deeper-deepest.ensures) passed;
+      passed = subst (λ (deepest : ℕ). PassesItems f (take (c.loop-i.i + 1) refs) c.args.levels c.args.progress.now.left deepest c.pass.new.progress.left c.args.progress.now.writable c.pass.new.progress.writable) (sym c.deeper-deepest.ensures) passed;
       progress = c.in_ok-deep.ensures.progress;
     }
 
@@ -174,8 +181,12 @@ walk-returns-clause-progress t c =
     let memo = c.of-memo.result in
     let known = IsMemo-passed f c.args.object c.args.levels c.args.progress.now.left c.content.new.progress.left c.in_ok-deep.deep memo c.in_ok-deep.ensures.passed c.of-memo.ensures.nodes c.of-memo.ensures.payload c.of-memo.ensures.depth in
     let so_far = c.in_ok-deep.ensures.progress in
+    let passed = c.in_ok-deep.ensures.passed in
+    let mark = subst (λ (state : State). IsMarked c.content.new.progress.states.items c.args.object state c.mark.new.states.items) c.passed.ensures c.in_ok-mark.ensures in
+    let has_text : c.content.new.progress.writable ≡ true → IsVisited (Passed memo.depth memo.nodes memo.payload) → HasText f c.args.object = λ all _. HasText-of f c.args.object passed.value passed.reads.valid passed.reads.spells (and_parts _ _ (sym passed.writable ∙ all)).1 in
     record {
-      states = AreStates-visited f (containers_of c.args.path.now) c.content.new.progress.states.items c.mark.new.states.items c.args.object (Passed memo.depth memo.nodes memo.payload) (subst (λ (state : State). IsMarked c.content.new.progress.states.items c.args.object state c.mark.new.states.items) c.passed.ensures c.in_ok-mark.ensures) known c.in_ok-deep.ensures.new so_far.states;
+      states = AreStates-visited f (containers_of c.args.path.now) c.content.new.progress.states.items c.mark.new.states.items c.args.object (Passed memo.depth memo.nodes memo.payload) mark known c.in_ok-deep.ensures.new so_far.states;
+      texts = HaveTexts-marked f c.content.new.progress.states.items c.mark.new.states.items c.args.object (Passed memo.depth memo.nodes memo.payload) _ mark has_text so_far.texts;
       last = so_far.last;
       ready = so_far.ready;
       within = so_far.within;

@@ -21,6 +21,6 @@ decreases-items l = 4 * l.levels + 3
 abbrev pub invariant-items-loop-i : goal.invariant-items-loop-i
 invariant-items-loop-i l =
     record {
-      passed : PassesItems (octets_of l.self.visitor.file) (take l.i (numbers_of l.refs)) l.levels l.initial.progress.left l.deepest l.progress.left;
+      passed : PassesItems (octets_of l.self.visitor.file) (take l.i (numbers_of l.refs)) l.levels l.initial.progress.left l.deepest l.progress.left l.initial.progress.writable l.progress.writable;
       progress : IsProgress (octets_of l.self.visitor.file) (l.container ∷ containers_of l.before) l.progress;
     }

@@ -34,4 +34,5 @@ loop-i-preserved c = record {
   keys = c.loop-i.invariant.keys ++ c.in_ok-key.ensures.read.units ∷ [];
   read = ReadsKeys-next (octets_of c.args.self.now.visitor.file) (numbers_of c.args.refs) c.loop-i.i c.in_ok-object.object c.args.levels c.args.progress.now.left c.loop-i.progress.left c.key.new.progress.left c.loop-i.invariant.keys c.in_ok-key.ensures.read.units (omega arith) (c.in_ok-object.ensures.same ∙ c.get.ensures) c.in_ok-object.ensures.below c.loop-i.invariant.read c.in_ok-key.ensures.read.reads;
   progress = c.in_ok-key.ensures.progress;
+  writable = c.in_ok-key.ensures.writable ∙ c.loop-i.invariant.writable;
 }

@@ -1,4 +1,4 @@
-use Rattle.std.proofs.Common.{◌∷◌, ℕ, List, take}
+use Rattle.std.proofs.Common.{◌≡◌, ◌∷◌, ℕ, List, take}
 use Rattle.plist_object.specs.Views.{octets_of, numbers_of}
 use Rattle.plist_binary.specs.Paths.{containers_of}
 use Rattle.plist_binary.specs.Progress.{IsProgress}
@@ -10,4 +10,5 @@ invariant-loop-i l = record {
   keys : List (List ℕ);
   read : ReadsItems (octets_of l.self.visitor.file) (take l.i (numbers_of l.refs)) l.levels l.initial.progress.left (texts keys) l.progress.left;
   progress : IsProgress (octets_of l.self.visitor.file) (l.table ∷ containers_of l.before) l.progress;
+  writable : l.progress.writable ≡ l.initial.progress.writable;
 }

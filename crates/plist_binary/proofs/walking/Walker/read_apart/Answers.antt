@@ -53,6 +53,7 @@ returns-clause-progress c =
     let now = c.keys.new.progress.left in
     record {
       states = so_far.states;
+      texts = so_far.texts;
       last = SpellApart-read (octets_of c.args.self.now.visitor.file) (numbers_of c.args.refs) c.args.levels (before.payload - now.payload) before now (returns-clause-read c) refl;
       ready = c.sort.ensures.ready;
       within = so_far.within;

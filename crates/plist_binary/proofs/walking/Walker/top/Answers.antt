@@ -1,8 +1,9 @@
-use Rattle.std.proofs.Common.{ℕ, subst}
+use Rattle.std.proofs.Common.{ℕ, Bool, subst}
 use Rattle.plist_value.specs.declared.budget.Budget.{Budget}
 use Rattle.plist_value.specs.declared.TheConstants.{MAX_DEPTH}
 use Rattle.plist_object.specs.Layout.{trailer_of}
 use Rattle.plist_object.specs.Views.{octets_of}
+use Rattle.plist_binary.specs.Budgets.{limits}
 use Rattle.plist_binary.specs.Passing.{Passes}
 use Rattle.plist_binary.proofs.walking.Walker.top.Goals as goal
 
@@ -14,9 +15,12 @@ returns-clause-passed c =
     let f = octets_of c.args.self.now.visitor.file in
     let deep = c.in_ok-pass.field-0 in
     let after = c.pass.new.progress.left in
-    let from_top = subst (λ (top : ℕ). Passes f top MAX_DEPTH c.none-progress.result.left deep after) c.top-top.ensures.value c.in_ok-pass.ensures.passed in
+    let writable = c.pass.new.progress.writable in
+    let first = c.none-progress.result.writable in
+    let from_top = subst (λ (top : ℕ). Passes f top MAX_DEPTH c.none-progress.result.left deep after first writable) c.top-top.ensures.value c.in_ok-pass.ensures.passed in
+    let from_limits = subst (λ (left : Budget). Passes f (trailer_of f).top MAX_DEPTH left deep after first writable) c.none-progress.ensures.left from_top in
     record {
       deep = deep;
       after = after;
-      passes = subst (λ (left : Budget). Passes f (trailer_of f).top MAX_DEPTH left deep after) c.none-progress.ensures.left from_top;
+      passes = subst (λ (all : Bool). Passes f (trailer_of f).top MAX_DEPTH limits deep after all writable) c.none-progress.ensures.writable from_limits;
     }

@@ -1,13 +1,32 @@
 use Rattle.std.proofs.lemmas.Result.{err_from_is_err_and}
 use Rattle.std.proofs.Common.{refl}
 use Rattle.plist_convert.proofs.Created.{settled, unsettled}
+use Rattle.plist_convert.proofs.Limits.{told_fits, told_full, told_stored, unfilled}
 use Rattle.plist_convert.proofs.file_disk.FileDiskDisk.store.Goals as goal
 
-pub returns-in_err-settle : goal.returns-in_err-settle
-returns-in_err-settle g c =
+pub returns-in_err-settle-clause-stores : goal.returns-in_err-settle-clause-stores
+returns-in_err-settle-clause-stores g c =
     let e = err_from_is_err_and c.from_residual.result c.from_residual.ensures.1 in
     rw (e.1, e.2) (unsettled c.args.form c.args.octets.items _ _ _ _ _ c.args.path.now _ _ c.create-created.ensures.creates c.in_err-settle.ensures.unchanged refl)
 
-pub returns : goal.returns
-returns g c =
-    settled g.O.Writer.Write.contents _ _ _ _ _ _ _ _ _ _ c.create-created.ensures.placed c.create-created.ensures.creates c.in_ok-settle.ensures.settles c.failures_after-self.ensures
+pub returns-in_err-settle-clause-full : goal.returns-in_err-settle-clause-full
+returns-in_err-settle-clause-full g c =
+    let e = err_from_is_err_and c.from_residual.result c.from_residual.ensures.1 in
+    rw (e.1, e.2) (unfilled c.args.form c.args.octets.items (g.O.Opens.limit c.args.self.now.opener) _ 0)
+
+pub returns-clause-stores : goal.returns-clause-stores
+returns-clause-stores g c =
+    let sent = c.create-created.result.1 in
+    let needs_memory = c.create-created.result.2 in
+    rw c.tell-stored.ensures (told_stored c.args.form c.args.octets.items _ _ _ _ c.args.path.now sent needs_memory
+    (λ x counts. settled g.O.Writer.Write.contents _ _ _ _ _ _ x _ _ sent c.create-created.ensures.placed c.create-created.ensures.creates
+    c.in_ok-settle.ensures.settles counts) (rw c.tell-stored.ensures at c.failures_after-self.ensures))
+
+pub returns-clause-fits : goal.returns-clause-fits
+returns-clause-fits g c =
+    rw c.tell-stored.ensures (told_fits _ _ c.create-created.result.1 c.create-created.result.2 c.create-created.ensures.fits)
+
+pub returns-clause-full : goal.returns-clause-full
+returns-clause-full g c =
+    rw c.tell-stored.ensures (told_full c.args.form c.args.octets.items _ _ c.create-created.result.1 c.create-created.result.2
+    c.create-created.ensures.full)

@@ -1,6 +1,0 @@
-pub mod Orders
-pub mod Spelling
-pub mod DraftSteps
-pub mod LeftSteps
-pub mod Phrases
-pub mod FoundSteps

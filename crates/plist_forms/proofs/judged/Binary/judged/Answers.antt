@@ -1,0 +1,47 @@
+use Rattle.std.proofs.Common.{◌≡◌, ◌∙◌, ap, inr, subst, sym, List, ℕ}
+use Rattle.plist_object.specs.Spelled.{IsBinary}
+use Rattle.plist_object.specs.Views.{octets_of}
+use Rattle.plist_forms.specs.Fault.{fault_for}
+use Rattle.plist_forms.proofs.Judging.{encoded_writable}
+use Rattle.plist_forms.proofs.Refusing.{binary_refused, refused_as}
+use Rattle.plist_forms.proofs.judged.Binary.judged.Goals as goal
+
+pub returns-in_err-judge_file-in-Input-clause-refused : goal.returns-in_err-judge_file-in-Input-clause-refused
+returns-in_err-judge_file-in-Input-clause-refused g c = λ input read.
+    let fault = c.in_err-judge_file-in-Input.field-0.0 in
+    let owned = rw c.in-Input.is at read in
+    let same : c.as_slice.result.now ≡ input = c.as_slice.ensures ∙ owned.1 in
+    let stands = rw same at c.in_err-judge_file-in-Input.ensures.stands in
+    let none = rw same at c.in_err-judge_file-in-Input.ensures.refused in
+    refused_as input (fault_for fault) c.from_residual.result c.from_residual.ensures.1 (binary_refused input owned.0 fault stands none)
+
+pub returns-in_ok-judge_file-in-Input-clause-writable : goal.returns-in_ok-judge_file-in-Input-clause-writable
+returns-in_ok-judge_file-in-Input-clause-writable g c = λ input read v is.
+    let same = c.in_ok-judge_file-in-Input.ensures.file in
+    c.in_ok-judge_file-in-Input.ensures.writable v (subst (λ (os : List ℕ). IsBinary os v) same is)
+
+pub returns-in-Draft-clause-file : goal.returns-in-Draft-clause-file
+returns-in-Draft-clause-file g c = λ input read.
+    let drafted = rw c.in-Draft.is at read in
+    let same : octets_of c.draft.result.file ≡ c.in-Draft.draft.items =
+    ap octets_of c.draft.ensures.file ∙ c.layout.ensures ∙ c.as_slice-in-Draft.ensures.value in
+    rw same (record {
+      value = drafted.1.0;
+      accepted = inr (drafted.0, drafted.1.1.0);
+      binary = drafted.1.1.1;
+    })
+
+pub returns-in-Draft-clause-ready : goal.returns-in-Draft-clause-ready
+returns-in-Draft-clause-ready g c = c.draft.ensures.ready _
+
+pub returns-in-Draft-clause-writable : goal.returns-in-Draft-clause-writable
+returns-in-Draft-clause-writable g c = λ input read v is.
+    let drafted = rw c.in-Draft.is at read in
+    let same : octets_of c.draft.result.file ≡ c.in-Draft.draft.items =
+    ap octets_of c.draft.ensures.file ∙ c.layout.ensures ∙ c.as_slice-in-Draft.ensures.value in
+    let binary : IsBinary c.in-Draft.draft.items v = subst (λ (os : List ℕ). IsBinary os v) same is in
+    encoded_writable input c.in-Draft.draft.items drafted.0 (record {
+      value = drafted.1.0;
+      accepted = inr (drafted.0, drafted.1.1.0);
+      binary = drafted.1.1.1;
+    }) v binary ∙ sym c.draft.ensures.writable
