@@ -1,19 +1,22 @@
 #!/usr/bin/env python3
 """Measures `plistconv convert` on binary files and texts beside other programs, in one run.
 
-usage: bench/bench.py [PLISTCONV] [--runs N] [--only NAME,..] [--small] [--plot FILE] [--instructions]
+usage: bench/bench.py [PLISTCONV] [--runs N] [--only NAME,..] [--small]
+                      [--plot FILE] [--instructions]
 
-The programs run in turns, N times (default 5), so that other work on the machine affects all of them alike. Seconds
-are user and system time of the processor, the least of these runs. Memory is the greatest resident size. A peer reads
-the file and writes it as a binary property list (GNUstep's pl: as a text). Peers that are not installed are skipped,
-with a line that names the Debian package. Within 60 seconds each program has to write a file with the value of its
-input, which is checked by `plistconv same`; a peer that does not is left out with a line. The status is 1 if plistconv
-does not, or if a target at the end is missed.
+The programs run in turns, N times (default 5), so that other work on the machine affects all of
+them alike. Seconds are user and system time of the processor, the least of these runs. Memory is
+the greatest resident size. A peer reads the file and writes it as a binary property list (GNUstep's
+pl: as a text). Peers that are not installed are skipped, with a line that names the Debian package.
+Within 60 seconds each program has to write a file with the value of its input, which is checked by
+`plistconv same`; a peer that does not is left out with a line. The status is 1 if plistconv does
+not, or if a target at the end is missed.
 
-Each file is made at a sixteenth, at a quarter and at the whole of its size, to show growth; --small leaves out the
-whole. Growth itself is measured separately: in each turn the sixteenth is converted sixteen times and the whole once.
---plot writes a plot of time and memory against size. --instructions also counts instructions of plistconv with
-callgrind (Debian's valgrind), which other work on the machine does not affect. Files are made in separate processes.
+Each file is made at a sixteenth, at a quarter and at the whole of its size, to show growth; --small
+leaves out the whole. Growth itself is measured separately: in each turn the sixteenth is converted
+sixteen times and the whole once. --plot writes a plot of time and memory against size.
+--instructions also counts instructions of plistconv with callgrind (Debian's valgrind), which other
+work on the machine does not affect. Files are made in separate processes.
 """
 import argparse
 import os
@@ -71,8 +74,11 @@ def row(name, scale, octets, figures):
     ours = figures[OURS][0]
     for program, found in figures.items():
         if found is not None:
-            print(f"| {name} | {octets:,} | {program} | {found[0]:.3f} | {ours / found[0]:.2f} "
-                  f"| {found[1] / 1e6:.1f} | {found[1] / octets:.1f} |", flush=True)
+            print(
+                f"| {name} | {octets:,} | {program} | {found[0]:.3f} | {ours / found[0]:.2f} "
+                f"| {found[1] / 1e6:.1f} | {found[1] / octets:.1f} |",
+                flush=True,
+            )
 
 
 def says_the_same(measure, program, source, written):
@@ -89,7 +95,9 @@ def one(measure, program, programs, made, name, scale, count):
         raise SystemExit(f"{name}: `{program} convert binary1` does not end with 0.")
     for other, found in figures.items():
         if found is None:
-            wrong.append((other, f"{name} at {scale}: {other} does not end with 0 within {MOST} seconds"))
+            wrong.append(
+                (other, f"{name} at {scale}: {other} does not end with 0 within {MOST} seconds")
+            )
         elif not says_the_same(measure, program, source, made.path(name, scale, other)):
             wrong.append((other, f"{name} at {scale}: {other} does not write the same value"))
             figures[other] = None
@@ -108,7 +116,9 @@ class Targets:
 
     def line(self, text, number, most):
         self.missed += number > most
-        print(f"- {text}: at most {most:g}, measured {number:.2f}: {'met' if number <= most else 'missed'}")
+        print(
+            f"- {text}: at most {most:g}, measured {number:.2f}: {'met' if number <= most else 'missed'}"
+        )
 
     def time(self, name, peer, most, scale=1):
         _, found = self.figures.get((name, scale), (0, {}))
@@ -122,13 +132,16 @@ class Targets:
 
     def growth(self, name, most):
         if name in self.growths:
-            self.line(f"{name}: time of that of a sixteenth of the octets", self.growths[name], most)
+            self.line(
+                f"{name}: time of that of a sixteenth of the octets", self.growths[name], most
+            )
 
 
 def growth(measure, words, made, name, turns):
-    """Returns how many times as long a file of 16 times the size takes, as the median of the turns. In each turn a
-    sixteenth of the file is converted sixteen times and the whole once, so that other work on the machine affects both
-    alike. A file with 16 times the items may have more than 16 times the bytes: references and offsets are wider."""
+    """Returns how many times as long a file of 16 times the size takes, as the median of the turns.
+    In each turn a sixteenth of the file is converted sixteen times and the whole once, so that
+    other work on the machine affects both alike. A file with 16 times the items may have more than
+    16 times the bytes: references and offsets are wider."""
     small, whole = (made.path(name, scale) for scale in (1 / 16, 1))
 
     def seconds(path):
@@ -141,12 +154,17 @@ def growth(measure, words, made, name, turns):
 def targets(figures, growths):
     """Prints each target, and returns how many are missed."""
     said = Targets(figures, growths)
-    for name, time, memory in (("mixed", .1, 3), ("keys", .22, 3.5), ("numbers", .12, 4)):
+    for name, time, memory in (
+        ("mixed", 0.1, 3),
+        ("keys", 0.22, 3.5),
+        ("chinese", 0.2, 4),
+        ("numbers", 0.12, 4),
+    ):
         said.time(name, CRATE, time)
         said.memory(name, memory)
     said.time("data", COPY, 1.1)
     said.memory("data", 1.1)
-    for name, time in (("project", .13), ("strings", .15), ("strings16", .18)):
+    for name, time in (("project", 0.13), ("strings", 0.15), ("strings16", 0.18)):
         said.time(name, OPENSTEP, time)
         said.memory(name, 4)
     for name in files.BINARY:
@@ -177,7 +195,11 @@ def main():
         measure, made = Measure(folder), Files(folder)
         ours = {OURS: [program, "convert", "binary1"]}
         of_binary = {**ours, **peers.found(peers.OF_BINARY, folder)}
-        of_text = {**ours, **peers.found(peers.OF_TEXT, folder), BACK: [program, "convert", "openstep"]}
+        of_text = {
+            **ours,
+            **peers.found(peers.OF_TEXT, folder),
+            BACK: [program, "convert", "openstep"],
+        }
         print("| file | octets | program | seconds | ours / its | MB | memory / input |")
         print("|---|---|---|---|---|---|---|")
         for name in names:

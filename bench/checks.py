@@ -1,11 +1,12 @@
 #!/usr/bin/env python3
-"""Compares the time of `plistconv check` with that of a conversion, and that of `same` with that of `lint`.
+"""Compares the time of `plistconv check` with that of a conversion, and that of `same`
+with that of `lint`.
 
 usage: bench/checks.py [PLISTCONV]   (the program to measure, ./plistconv if not given)
 
-Checks canonical files, and compares a file with itself. The files are binary ones of bench.py. Time is processor time,
-the least of nine runs in turns. The status is 1 if a check takes more than 0.6 of the time of the conversion, or `same`
-more than 1.3 of that of `lint`.
+Checks canonical files, and compares a file with itself. The files are binary ones of bench.py. Time
+is processor time, the least of nine runs in turns. The status is 1 if a check takes more than 0.6
+of the time of the conversion, or `same` more than 1.3 of that of `lint`.
 """
 import os
 import sys
@@ -33,7 +34,9 @@ def least(measure, commands):
 def main():
     program = os.path.abspath(sys.argv[1] if len(sys.argv) > 1 else "./plistconv")
     faults = []
-    print("| file | check, s | convert, s | ratio | same, s | lint, s | ratio |\n|---|---|---|---|---|---|---|")
+    print(
+        "| file | check, s | convert, s | ratio | same, s | lint, s | ratio |\n|---|---|---|---|---|---|---|"
+    )
     with tempfile.TemporaryDirectory() as folder:
         measure = Measure(folder)
         source, path, out = (os.path.join(folder, name) for name in ("source", "canonical", "out"))
@@ -41,13 +44,24 @@ def main():
             files.make(name, 1, source)
             if measure.run([program, "convert", "binary1", source, path]).status:
                 sys.exit(f"{name} is not converted")
-            check, convert, same, lint = least(measure, [
-                [program, "check", path], [program, "convert", "binary1", path, out],
-                [program, "same", path, path], [program, "lint", path]])
-            print(f"| {name} | {check:.3f} | {convert:.3f} | {check / convert:.2f} "
-                  f"| {same:.3f} | {lint:.3f} | {same / lint:.2f} |", flush=True)
+            check, convert, same, lint = least(
+                measure,
+                [
+                    [program, "check", path],
+                    [program, "convert", "binary1", path, out],
+                    [program, "same", path, path],
+                    [program, "lint", path],
+                ],
+            )
+            print(
+                f"| {name} | {check:.3f} | {convert:.3f} | {check / convert:.2f} "
+                f"| {same:.3f} | {lint:.3f} | {same / lint:.2f} |",
+                flush=True,
+            )
             if check > MOST_CHECK * convert:
-                faults.append(f"{name}: a check takes more than {MOST_CHECK} of the time of a conversion")
+                faults.append(
+                    f"{name}: a check takes more than {MOST_CHECK} of the time of a conversion"
+                )
             if same > MOST_SAME * lint:
                 faults.append(f"{name}: same takes more than {MOST_SAME} of the time of lint")
     print("\n".join(faults) or "all as asked")

@@ -13,15 +13,19 @@ import texts
 def mixed(scale):
     """Returns typical records of a program: at scale 1 about 460,000 objects in 13 MB."""
     chance = random.Random(7)
-    return [{
-        "name": f"record {number} of the catalogue of 2026",
-        "size": chance.randrange(1 << 40),
-        "ratio": chance.random(),
-        "made": datetime.datetime(2001, 1, 1) + datetime.timedelta(seconds=chance.randrange(1 << 30)),
-        "digest": chance.randbytes(32),
-        "flags": [chance.random() < 0.5 for _ in range(3)],
-        "title": "Überschrift %d" % chance.randrange(1000),
-    } for number in range(int(65_700 * scale))]
+    return [
+        {
+            "name": f"record {number} of the catalogue of 2026",
+            "size": chance.randrange(1 << 40),
+            "ratio": chance.random(),
+            "made": datetime.datetime(2001, 1, 1)
+            + datetime.timedelta(seconds=chance.randrange(1 << 30)),
+            "digest": chance.randbytes(32),
+            "flags": [chance.random() < 0.5 for _ in range(3)],
+            "title": "Überschrift %d" % chance.randrange(1000),
+        }
+        for number in range(int(65_700 * scale))
+    ]
 
 
 def keys(scale):
@@ -29,6 +33,20 @@ def keys(scale):
     names = [f"key {number:06d} of the table" for number in range(int(200_000 * scale))]
     random.Random(9).shuffle(names)
     return {name: number % 7 for number, name in enumerate(names)}
+
+
+def chinese(scale):
+    """Returns a dictionary of 80,000 keys, each of ideographs and a number, with strings of ideographs as values."""
+    chance = random.Random(11)
+
+    def ideographs(least, most):
+        return "".join(
+            chr(chance.randrange(0x4E00, 0x9FA0)) for _ in range(chance.randint(least, most))
+        )
+
+    return {
+        f"{ideographs(4, 12)}{number}": ideographs(5, 30) for number in range(int(80_000 * scale))
+    }
 
 
 def numbers(scale):
@@ -41,10 +59,12 @@ def data(scale):
     return random.Random(5).randbytes(int(100_000_000 * scale))
 
 
-BINARY = {"mixed": mixed, "keys": keys, "numbers": numbers, "data": data}
-TEXTS = {"project": lambda scale: texts.project(int(10_000_000 * scale)),
-         "strings": lambda scale: texts.strings(int(9_000_000 * scale), "utf-8"),
-         "strings16": lambda scale: texts.strings(int(9_000_000 * scale), "utf-16-le")}
+BINARY = {"mixed": mixed, "keys": keys, "chinese": chinese, "numbers": numbers, "data": data}
+TEXTS = {
+    "project": lambda scale: texts.project(int(10_000_000 * scale)),
+    "strings": lambda scale: texts.strings(int(9_000_000 * scale), "utf-8"),
+    "strings16": lambda scale: texts.strings(int(9_000_000 * scale), "utf-16-le"),
+}
 
 
 def make(name, scale, path):

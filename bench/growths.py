@@ -1,26 +1,29 @@
 #!/usr/bin/env python3
-"""Makes each allocation fail in turn, in runs of `plistconv` with each of its commands and in the tests of the crates.
+"""Makes each allocation fail in turn, in runs of `plistconv` with each of its commands and in the
+tests of the crates.
 
 usage: bench/growths.py [PLISTCONV] [--short] [--library libplistconv.a] [--tests CRATE..]
        (./plistconv if not given; all crates with built tests)
 
-A run of the program with a failed allocation must end as with ample memory, or with status 5 and the line of 60, after
-writing as many bytes as that line says. If it fails before the first byte was written, the output file must be
-unchanged. If several files are checked, one of them may have that line, and the others must have their own. A test must
-pass, or return an allocation error or 60. One whose assertion fails was given another answer, whatever numbers the
-assertion prints; bench/growing.c is a test that ends in each of these ways. Tests that make more than 2,000
+A run of the program with a failed allocation must end as with ample memory, or with status 5 and
+the line of 60, after writing as many bytes as that line says. If it fails before the first byte was
+written, the output file must be unchanged. If several files are checked, one of them may have that
+line, and the others must have their own. A test must pass, or return an allocation error or 60. One
+whose assertion fails was given another answer, whatever numbers the assertion prints;
+bench/growing.c is a test that ends in each of these ways. Tests that make more than 2,000
 allocations, take longer than a second, or cannot tell these endings, are left out by name.
 
-With --library each allocation of plistconv_check fails in turn, on the canonical file of the array of the strings 000
-to 254. The function builds no value, so it makes fewer than 100 allocations. If the 100th is to fail, the answer is
-therefore canonical; a checker that read and wrote the value made 318. A test that reads the value of that file has to
-make more than 255, and to fail without the 100th, so such a checker would be noticed. Each allocation of
-examples/c/calls.c fails in turn too. It makes each call of the C library, and ends with 0, or with 5 after a 60 that
-changed nothing.
+With --library each allocation of plistconv_check fails in turn, on the canonical file of the array
+of the strings 000 to 254. The function builds no value, so it makes fewer than 100 allocations. If
+the 100th is to fail, the answer is therefore canonical; a checker that read and wrote the value
+made 318. A test that reads the value of that file has to make more than 255, and to fail without
+the 100th, so such a checker would be noticed. Each allocation of examples/c/calls.c fails in turn
+too. It makes each call of the C library, and ends with 0, or with 5 after a 60 that changed
+nothing.
 
-With --short the program gets only a few inputs, and only a few tests run, which between them make each call that
-allocates. That takes seconds. `rt test` in a crate builds its tests. The library that makes allocations fail is
-bench/refuse.c, built with cc.
+With --short the program gets only a few inputs, and only a few tests run, which between them make
+each call that allocates. That takes seconds. `rt test` in a crate builds its tests. The library
+that makes allocations fail is bench/refuse.c, built with cc.
 """
 import collections
 import glob
@@ -47,50 +50,110 @@ INPUTS = {
     "table.bin": joined([b"\xd2\x01\x02\x02\x01", b"Qa", b"Qb"], 1),
     "unsorted.bin": joined([b"\xd2\x01\x02\x02\x01", b"Qb", b"Qa"], 1),
     "shared.bin": joined([b"\xa3\x01\x01\x02", b"\xa2\x02\x03", b"\x61\xd8\x00", b"\x41a"], 1),
-    "scalars.bin": joined([b"\xa4\x01\x02\x03\x04", b"\x10\x05", b"\x23" + bytes(8), b"\x4f\x10\x14" + bytes(20),
-                           b"\xd1\x05\x03", b"\x5f\x10\x10" + b"k" * 16], 1),
+    "scalars.bin": joined(
+        [
+            b"\xa4\x01\x02\x03\x04",
+            b"\x10\x05",
+            b"\x23" + bytes(8),
+            b"\x4f\x10\x14" + bytes(20),
+            b"\xd1\x05\x03",
+            b"\x5f\x10\x10" + b"k" * 16,
+        ],
+        1,
+    ),
     "cycle.bin": joined([b"\xa1\x00"], 1),
     "same-keys.bin": joined([b"\xd2\x01\x02\x03\x03", b"Qa", b"Qa", b"\x09"], 1),
     "short.bin": b"bplist00",
-    # More keys than are sorted by their strings alone, whose order is reused; more numbers than fit a set before it
-    # reserves space, of which some occur twice; long data.
-    "seventy.bin": joined([head(0xD0, 70) + bytes([*range(70, 0, -1)]) + bytes([71]) * 70,
-                           *(b"\x54k%03d" % key for key in range(70)), b"\x09"], 1),
-    "numbers.bin": joined([head(0xA0, 6_000) + b"".join(octets_of(1 + place % 5_000, 2) for place in range(6_000)),
-                           *(b"\x11" + octets_of(place, 2) for place in range(5_000))], 2),
+    # More keys than are sorted by their strings alone, whose order is reused; more numbers than fit
+    # a set before it reserves space, of which some occur twice; long data.
+    "seventy.bin": joined(
+        [
+            head(0xD0, 70) + bytes([*range(70, 0, -1)]) + bytes([71]) * 70,
+            *(b"\x54k%03d" % key for key in range(70)),
+            b"\x09",
+        ],
+        1,
+    ),
+    "numbers.bin": joined(
+        [
+            head(0xA0, 6_000) + b"".join(octets_of(1 + place % 5_000, 2) for place in range(6_000)),
+            *(b"\x11" + octets_of(place, 2) for place in range(5_000)),
+        ],
+        2,
+    ),
     "long.bin": joined([b"\xa2\x01\x02", *[head(0x40, 80_000) + bytes(80_000)] * 2], 1),
 }
 
-# The inputs of --short: each command gets a file and a text that it accepts, and one that it refuses.
+# The inputs of --short: each command gets a file and a text that it accepts, and
+# one that it refuses.
 SHORT = ["table.txt", "twice.txt", "shared.bin", "same-keys.bin"]
 
 # The tests of --short: between them they make each call of the library that allocates.
-SHORT_TESTS = ("growths::", "object_tests::a_refused_put_leaves_the_list", "drafts::a_refused_put_leaves_the_draft",
-               "tokens::a_refused_growth_changes_no_answer", "transfer_tests::what_went_out_is_a_front_of_the_output",
-               "print_tests::what_was_printed_is_a_front")
+SHORT_TESTS = {
+    "plist_tests": (
+        "growths::",
+        "object_tests::a_refused_put_leaves_the_list",
+        "drafts::a_refused_put_leaves_the_draft",
+        "tokens::a_refused_growth_changes_no_answer",
+        "transfer_tests::what_went_out_is_a_front_of_the_output",
+        "print_tests::what_was_printed_is_a_front",
+    ),
+    "program_tests": ("growths::",),
+}
 
-WORDS = [["convert", "binary1", "IN", "out"], ["convert", "openstep", "IN", "out"], ["lint", "IN"], ["check", "IN"],
-         ["print", "IN"], ["same", "IN", "table.txt"], ["same", "unsorted.bin", "IN"],
-         ["lint", "table.txt", "IN", "shared.bin"], ["check", "unsorted.bin", "IN", "shared.bin"]]
-OTHER_WORDS = [["--help"], ["convert", "--help"], ["--version"], ["turn", "table.bin"], ["check"], ["lint", "missing"],
-               ["check", "missing"], ["convert", "binary1", "table.bin", "no/out"], ["same", "table.bin", "missing"],
-               ["explain"], ["explain", "14"], ["explain", "turn"]]
+WORDS = [
+    ["convert", "binary1", "IN", "out"],
+    ["convert", "openstep", "IN", "out"],
+    ["lint", "IN"],
+    ["check", "IN"],
+    ["print", "IN"],
+    ["same", "IN", "table.txt"],
+    ["same", "unsorted.bin", "IN"],
+    ["lint", "table.txt", "IN", "shared.bin"],
+    ["check", "unsorted.bin", "IN", "shared.bin"],
+]
+OTHER_WORDS = [
+    ["--help"],
+    ["convert", "--help"],
+    ["--version"],
+    ["turn", "table.bin"],
+    ["check"],
+    ["lint", "missing"],
+    ["check", "missing"],
+    ["convert", "binary1", "table.bin", "no/out"],
+    ["same", "table.bin", "missing"],
+    ["explain"],
+    ["explain", "14"],
+    ["explain", "turn"],
+]
 
 
 # The test that reads the value of the file that plistconv_check is tried on.
 BUILDS = "growths::a_value_of_many_strings_is_read"
 
 
-# The tests that do not tell refused memory from another answer: they assert whole outputs or statuses, or write to a
-# list whose refused growth is a failed write, 51. The calls that they make are those of SHORT_TESTS.
-UNTOLD = ("device_tests::", "help_tests::", "host_tests::", "judge_tests::keys_in_another_order", "memory_tests::",
-          "order_tests::", "print_tests::a_sink_of_any_room", "sink_tests::a_writer_takes_what_is_put")
+# The tests that do not tell refused memory from another answer: they assert whole outputs or
+# statuses, or write to a list whose refused growth is a failed write, 51. The calls that they make
+# are those of SHORT_TESTS.
+UNTOLD = (
+    "device_tests::",
+    "help_tests::",
+    "host_tests::",
+    "judge_tests::keys_in_another_order",
+    "memory_tests::",
+    "order_tests::",
+    "sink_tests::a_writer_takes_what_is_put",
+)
 
-# What a test prints if one of its calls returned an allocation error or 60: the error that it returns itself, or the
-# left side of a failed comparison, which is what the call returned. The right side is what was wanted instead, and the
-# text of another assertion has the numbers that it allows.
-REFUSED = re.compile(rb"^(?:[Ee]rror: (?!\").*(?:AllocError|AllocFailed|OutOfMemory|out of memory).*"
-                     rb"|  left: (?:.*\bOutOfMemory\b.*|60|Some\(60\)))$", re.MULTILINE)
+# What a test prints if one of its calls returned an allocation error or 60: the error that it
+# returns itself, or the left side of a failed comparison, which is what the call returned. The
+# right side is what was wanted instead, and the text of another assertion has the numbers that it
+# allows.
+REFUSED = re.compile(
+    rb"^(?:[Ee]rror: (?!\").*(?:AllocError|AllocFailed|OutOfMemory|out of memory).*"
+    rb"|  left: (?:.*\bOutOfMemory\b.*|60|Some\(60\)))$",
+    re.MULTILINE,
+)
 
 # What bench/growing.c prints if its allocation is refused, and whether that says so.
 GROWING = {
@@ -117,24 +180,31 @@ class Refusing:
         self.folder, self.out = folder, os.path.join(folder, "out")
         self.library, self.count = os.path.join(folder, "refuse.so"), os.path.join(folder, "count")
         source = os.path.join(refused.HERE, "refuse.c")
-        subprocess.run(["cc", "-shared", "-fPIC", "-O1", "-o", self.library, source, "-ldl"], check=True)
+        subprocess.run(
+            ["cc", "-shared", "-fPIC", "-O1", "-o", self.library, source, "-ldl"], check=True
+        )
 
     def run(self, words, octets, number):
-        """Returns the status, the output and the content of `out`, then standard error and the allocation count."""
+        """Returns the status, the output and the content of `out`, then standard error and the
+        allocation count."""
         with open(self.out, "wb") as file:
             file.write(BEFORE)
-        status, output, complaint, allocations = refused.run(words, octets, self.library, number, self.count)
+        status, output, complaint, allocations = refused.run(
+            words, octets, self.library, number, self.count
+        )
         with open(self.out, "rb") as file:
             return (status, output, file.read()), complaint, allocations
 
 
 def is_wanting(ending, ample, path):
-    """Returns whether the run ended out of memory, after writing as many bytes of the ample output as it says. If the
-    output goes to standard output, it precedes the line of this path there."""
+    """Returns whether the run ended out of memory, after writing as many bytes of the ample output
+    as it says. If the output goes to standard output, it precedes the line of this path there."""
     status, output, written = ending
     # The bytes before the line need not end with a newline.
     named = rb"[^\n]*" if path is None else re.escape(path)
-    line = re.search(rb"(?:" + named + rb": )?refused 60 OutOfMemory(?: after (?P<sent>\d+) octets)?\n$", output)
+    line = re.search(
+        rb"(?:" + named + rb": )?refused 60 OutOfMemory(?: after (?P<sent>\d+) octets)?\n$", output
+    )
     if status != 5 or line is None:
         return False
     sent = int(line["sent"] or 0)
@@ -144,14 +214,16 @@ def is_wanting(ending, ample, path):
 
 
 def wanting_file(ending, ample):
-    """Returns the number of the one file that has the line of 60, if the lines of the other files are as with ample
-    memory, or 0."""
+    """Returns the number of the one file that has the line of 60, if the lines of the other files
+    are as with ample memory, or 0."""
     status, output, written = ending
     lines, others = output.splitlines(keepends=True), ample[1].splitlines(keepends=True)
     differing = [number for number, pair in enumerate(zip(lines, others), 1) if pair[0] != pair[1]]
     if status != 5 or written != BEFORE or len(lines) != len(others) or len(differing) != 1:
         return 0
-    line = re.fullmatch(rb"(?:[^\n]*: )?refused 60 OutOfMemory(?: after 0 octets)?\n", lines[differing[0] - 1])
+    line = re.fullmatch(
+        rb"(?:[^\n]*: )?refused 60 OutOfMemory(?: after 0 octets)?\n", lines[differing[0] - 1]
+    )
     return differing[0] if line else 0
 
 
@@ -162,7 +234,9 @@ def how_it_ended(words, ending, ample):
         return "as with ample memory"
     if is_wanting(ending, ample, path):
         return "60"
-    number = wanting_file(ending, ample) if words[1:2] in (["lint"], ["check"]) and len(words) > 3 else 0
+    number = (
+        wanting_file(ending, ample) if words[1:2] in (["lint"], ["check"]) and len(words) > 3 else 0
+    )
     return f"60 for file {number}" if number else "otherwise"
 
 
@@ -182,22 +256,38 @@ def texts_to_254():
     objects = head(0xA0, 255) + b"".join(octets_of(place, 2) for place in range(1, 256)) + texts
     end = 8 + len(objects)
     places = b"".join(octets_of(place, 2) for place in [8, *range(end - len(texts), end, 4)])
-    return (b"bplist00" + objects + places + bytes([0] * 6 + [2, 2])
-            + octets_of(256, 8) + octets_of(0, 8) + octets_of(end, 8))
+    return (
+        b"bplist00"
+        + objects
+        + places
+        + bytes([0] * 6 + [2, 2])
+        + octets_of(256, 8)
+        + octets_of(0, 8)
+        + octets_of(end, 8)
+    )
 
 
 def built(source, library, folder):
-    """Builds a C program of this repository, with the library if there is one, and returns its path."""
+    """Builds a C program of this repository, with the library if there is one, and
+    returns its path."""
     top = os.path.join(refused.HERE, "..")
-    program = os.path.join(folder, os.path.basename(source)[:-len(".c")])
+    program = os.path.join(folder, os.path.basename(source)[: -len(".c")])
     flags = ["-std=c99", "-D_POSIX_C_SOURCE=200809L", f"-I{top}/include"]
-    subprocess.run(["cc", *flags, f"{top}/{source}", *([library] if library else []), "-o", program], check=True)
+    subprocess.run(
+        ["cc", *flags, f"{top}/{source}", *([library] if library else []), "-o", program],
+        check=True,
+    )
     return program
 
 
 def refuse_in_calls(library, refusing):
     """Returns how many runs of the calls of the C library do not end as they must."""
-    program, wrong, number, allocations = built("examples/c/calls.c", library, refusing.folder), 0, 0, 1
+    program, wrong, number, allocations = (
+        built("examples/c/calls.c", library, refusing.folder),
+        0,
+        0,
+        1,
+    )
     while number <= allocations:
         (status, *_), _, allocations = refusing.run([program], b"", number)
         if status not in ((0, 5) if number else (0,)):
@@ -213,7 +303,9 @@ def refuse_in_check(library, refusing):
     program, octets = built("bench/check.c", library, refusing.folder), texts_to_254()
     wrong, ample = 0, (0, b"canonical\n", BEFORE)
     ending, _, allocations = refusing.run([program], octets, 100)
-    print(f"plistconv_check of the texts 000 to 254: {allocations} allocations; with the 100th refused: {ending[:2]}")
+    print(
+        f"plistconv_check of the texts 000 to 254: {allocations} allocations; with the 100th refused: {ending[:2]}"
+    )
     if ending != ample or not 0 < allocations < 100:
         wrong += 1
     for number in range(1, allocations + 1):
@@ -240,10 +332,17 @@ def refuse_in_program(program, refusing, names):
             if told == "otherwise":
                 wrong += 1
                 status, *outputs = ending
-                print(f"{words[1:]}, {octets[:80]!r}, allocation {number}: {status}, {[it[-200:] for it in outputs]}, "
-                      f"{complaint[-200:]!r}", flush=True)
+                print(
+                    f"{words[1:]}, {octets[:80]!r}, allocation {number}: {status}, {[it[-200:] for it in outputs]}, "
+                    f"{complaint[-200:]!r}",
+                    flush=True,
+                )
     for kind, counts in endings.items():
-        print(f"{kind}: " + ", ".join(f"{runs} runs ended {told}" for told, runs in sorted(counts.items())), flush=True)
+        print(
+            f"{kind}: "
+            + ", ".join(f"{runs} runs ended {told}" for told, runs in sorted(counts.items())),
+            flush=True,
+        )
     return wrong
 
 
@@ -251,7 +350,9 @@ def ending_of_test(ample, ending, complaint):
     """Returns how a run of a test ended whose allocation was refused."""
     if ending[:2] == ample[:2]:
         return "as with ample memory"
-    return "with an allocation error or 60" if REFUSED.search(ending[1] + complaint) else "otherwise"
+    return (
+        "with an allocation error or 60" if REFUSED.search(ending[1] + complaint) else "otherwise"
+    )
 
 
 def refuse_in_growing(refusing):
@@ -271,16 +372,19 @@ def tests_of(crate):
     """Returns the names of a crate's tests, module by module."""
     root = os.path.join(refused.HERE, "..", "crates", crate, "src")
     for path in sorted(glob.glob(os.path.join(root, "**", "*.rt"), recursive=True)):
-        module = os.path.relpath(path, root)[:-len(".rt")].replace(os.sep, "::")
+        module = os.path.relpath(path, root)[: -len(".rt")].replace(os.sep, "::")
         with open(path, encoding="utf-8") as source:
             for name in re.findall(r"#\[test\]\s+fn (\w+)", source.read()):
                 yield name if module == "lib" else f"{module}::{name}"
 
 
 def refuse_in_tests(crate, refusing, only=None):
-    """Returns how many runs of the tests do not end as they must; `only` are the beginnings of names."""
+    """Returns how many runs of the tests do not end as they must; `only` are the
+    beginnings of names."""
     counts, left_out = collections.Counter(), []
-    program = os.path.abspath(os.path.join(refused.HERE, "..", "crates", crate, "out", crate + "_tests"))
+    program = os.path.abspath(
+        os.path.join(refused.HERE, "..", "crates", crate, "out", crate + "_tests")
+    )
     if not os.path.exists(program):
         print(f"tests of {crate}: skipped, not built, which `rt test` in crates/{crate} does")
         return 0
@@ -296,9 +400,14 @@ def refuse_in_tests(crate, refusing, only=None):
         if only is None and (is_long or name.startswith(UNTOLD)):
             left_out.append(name)
             continue
-        if name == BUILDS and (allocations <= 255 or refusing.run([program, name], b"", 100)[0][:2] == ample[:2]):
+        if name == BUILDS and (
+            allocations <= 255 or refusing.run([program, name], b"", 100)[0][:2] == ample[:2]
+        ):
             wrong += 1
-            print(f"{crate} {name} makes {allocations} allocations, or does without the 100th", flush=True)
+            print(
+                f"{crate} {name} makes {allocations} allocations, or does without the 100th",
+                flush=True,
+            )
         number, most = 0, allocations
         while number < allocations:
             number += 1
@@ -308,11 +417,17 @@ def refuse_in_tests(crate, refusing, only=None):
             if told == "otherwise":
                 wrong += 1
                 said = ending[1] + complaint
-                print(f"{crate} {name}, allocation {number}: {ending[0]}, {said[-200:]!r}", flush=True)
+                print(
+                    f"{crate} {name}, allocation {number}: {ending[0]}, {said[-200:]!r}", flush=True
+                )
             # A run that is aborted does not count the allocations after the refused one.
             if ending[0] < 0:
                 allocations = most
-    print(f"tests of {crate}: " + ", ".join(f"{runs} runs ended {told}" for told, runs in sorted(counts.items())), flush=True)
+    print(
+        f"tests of {crate}: "
+        + ", ".join(f"{runs} runs ended {told}" for told, runs in sorted(counts.items())),
+        flush=True,
+    )
     if left_out:
         print(f"tests of {crate} left out: " + ", ".join(left_out), flush=True)
     return wrong
@@ -326,11 +441,19 @@ def main():
     if "--library" in words:
         at = words.index("--library")
         library = os.path.abspath(words[at + 1])
-        del words[at:at + 2]
+        del words[at : at + 2]
     at = words.index("--tests") if "--tests" in words else len(words)
     program = os.path.abspath(words[0] if at > 0 else "./plistconv")
-    crates = ["plist_tests"] if is_short else words[at + 1:] or sorted(path.split(os.sep)[-3] for path in glob.glob(
-        os.path.join(refused.HERE, "..", "crates", "*", "out", "*_tests")) if os.path.isfile(path))
+    crates = (
+        list(SHORT_TESTS)
+        if is_short
+        else words[at + 1 :]
+        or sorted(
+            path.split(os.sep)[-3]
+            for path in glob.glob(os.path.join(refused.HERE, "..", "crates", "*", "out", "*_tests"))
+            if os.path.isfile(path)
+        )
+    )
     with tempfile.TemporaryDirectory() as folder:
         refusing = Refusing(folder)
         os.chdir(folder)
@@ -338,9 +461,16 @@ def main():
             with open(name, "wb") as file:
                 file.write(octets)
         wrong = refuse_in_growing(refusing)
-        wrong += refuse_in_check(library, refusing) + refuse_in_calls(library, refusing) if library else 0
+        wrong += (
+            refuse_in_check(library, refusing) + refuse_in_calls(library, refusing)
+            if library
+            else 0
+        )
         wrong += refuse_in_program(program, refusing, SHORT if is_short else INPUTS)
-        wrong += sum(refuse_in_tests(crate, refusing, SHORT_TESTS if is_short else None) for crate in crates)
+        wrong += sum(
+            refuse_in_tests(crate, refusing, SHORT_TESTS[crate] if is_short else None)
+            for crate in crates
+        )
     print("each run ended as it should" if wrong == 0 else f"{wrong} runs ended otherwise")
     return 1 if wrong else 0
 

@@ -1,17 +1,21 @@
 #!/usr/bin/env python3
-"""Measures each command of `plistconv` on files made to be slow, at two sizes, the second twice the first.
+"""Measures each command of `plistconv` on files made to be slow, at two sizes, the
+second twice the first.
 
-usage: bench/hostile.py [PLISTCONV] [--only NAME,..]   (the program to measure, ./plistconv if not given)
+usage: bench/hostile.py [PLISTCONV] [--only NAME,..]   (./plistconv if no program is given)
 
-Time is processor time, the least of three runs, or of six if that of three misses a limit. The sizes take turns, so
-that other work on the machine slows both alike. A command may take at most 0.5 s on a file of about 1 MB, and its time
-may grow at most 1.5 times as much as the file, where less than 0.02 s counts as 0.02 s. A print and an OpenStep text
-repeat each string that the value repeats, so they may be hundreds of times longer than the file. On such files these
-two commands run once, and may take 25 ns for each byte that they write; what they take for a byte may grow 1.5 times.
+Time is processor time, the least of three runs, or of six if that of three misses a limit. The
+sizes take turns, so that other work on the machine slows both alike. A command may take at most 0.5
+s on a file of about 1 MB, and its time may grow at most 1.5 times as much as the file, where less
+than 0.02 s counts as 0.02 s. A print and an OpenStep text repeat each string that the value
+repeats, so they may be hundreds of times longer than the file. On such files these two commands run
+once, and may take 25 ns for each byte that they write; what they take for a byte may grow 1.5
+times.
 
-Each cell has the seconds for the larger file and, if it is not too short, the growth of the time divided by that of the
-file, or the nanoseconds for each byte written and their growth. A cell that misses a limit says so, a line after the
-table has its figures, and the status is 1. The answer is that of `lint`, and must be the one listed here.
+Each cell has the seconds for the larger file and, if it is not too short, the growth of the time
+divided by that of the file, or the nanoseconds for each byte written and their growth. A cell that
+misses a limit says so, a line after the table has its figures, and the status is 1. The answer is
+that of `lint`, and must be the one listed here.
 """
 import argparse
 import collections
@@ -47,7 +51,9 @@ def head(kind, count):
 def file(objects, places, width):
     """Returns the file of objects that begin at these offsets, with references of `width` bytes."""
     body = b"bplist00" + objects
-    trailer = bytes([0] * 6 + [4, width]) + number(len(places), 8) + number(0, 8) + number(len(body), 8)
+    trailer = (
+        bytes([0] * 6 + [4, width]) + number(len(places), 8) + number(0, 8) + number(len(body), 8)
+    )
     return body + numbers(places, 4) + trailer
 
 
@@ -66,7 +72,8 @@ def array(items, width):
 
 
 def dictionary(names, value, width):
-    """Returns a dictionary with these keys, given by their numbers, which all have the same value."""
+    """Returns a dictionary with these keys, given by their numbers, which all
+    have the same value."""
     return head(0xD0, len(names)) + numbers(names, width) + number(value, width) * len(names)
 
 
@@ -76,18 +83,21 @@ def ascii_string(length, end=b""):
 
 
 def wide_string(length, place):
-    """Returns a UTF-16 string of `length` units. Strings of other places differ in the last unit."""
+    """Returns a UTF-16 string of `length` units. Strings of other places differ
+    in the last unit."""
     return head(0x60, length) + b"\x00a" * (length - 1) + number(0x100 + place, 2)
 
 
 def overlapping_strings(count, length):
-    """Returns strings that all reach into the bytes of the last one. Each has about `length` bytes."""
+    """Returns strings that all reach into the bytes of the last one. Each has
+    about `length` bytes."""
     start = b"\x5f\x12" + bytes(byte & 0x7F for byte in number(length, 4))
     return [start] * (count - 1) + [start + b"a" * length]
 
 
 def shared_keys(size):
-    """Returns an array of dictionaries that all have the same two long keys, which differ only in the last byte."""
+    """Returns an array of dictionaries that all have the same two long keys, which differ only
+    in the last byte."""
     count, length = size // 40, size // 4
     first, one = array([1, *range(5, count + 4)], 2), b"\xd2" + numbers((2, 3, 4, 4), 2)
     keys = [ascii_string(length, end) for end in (b"x", b"y")]
@@ -109,7 +119,8 @@ def unordered_keys(size):
 
 
 def one_dictionary_often(size):
-    """Returns objects that are all the same dictionary, whose keys and values are all the same string."""
+    """Returns objects that are all the same dictionary, whose keys and values are
+    all the same string."""
     count = size // 10
     one = dictionary([count] * count, count, 3)
     return file(one + b"Qa", [8] * count + [8 + len(one)], 3)
@@ -122,9 +133,17 @@ def one_string_often(size):
 
 def one_place(size):
     """Returns an array of strings that all begin at one offset, so that they are the same bytes."""
-    count = size // 8
+    return at_one_place(size // 8, wide_string(size // 250, 0))
+
+
+def one_short_place(size):
+    """Returns `one_place` with a shorter string."""
+    return at_one_place(size // 7, wide_string(255, 0))
+
+
+def at_one_place(count, text):
     first = array(range(1, count + 1), 3)
-    return file(first + wide_string(size // 250, 0), [8] + [8 + len(first)] * count, 3)
+    return file(first + text, [8] + [8 + len(first)] * count, 3)
 
 
 def one_key(size):
@@ -135,18 +154,22 @@ def one_key(size):
 
 
 def dictionaries_of(lists, keys, size, value=b"Qx", unreached=()):
-    """Returns an array of dictionaries of `size` bytes in total, whose keys are these lists of objects, in turn."""
+    """Returns an array of dictionaries of `size` bytes in total, whose keys are these lists of
+    objects, in turn."""
     width, at = 3, len(keys) + 1
     each = [dictionary(one, at, width) for one in lists]
     made, total = [], 0
     while total < size:
         made.append(each[len(made) % len(each)])
         total += len(made[-1])
-    return joined([array(range(at + 1, at + 1 + len(made)), width), *keys, value, *made, *unreached], width)
+    return joined(
+        [array(range(at + 1, at + 1 + len(made)), width), *keys, value, *made, *unreached], width
+    )
 
 
 def reordered(count, names, size, unreached=()):
-    """Returns dictionaries that all have the same `count` keys, of `names` bytes in total, each in another order."""
+    """Returns dictionaries that all have the same `count` keys, of `names` bytes in total, each
+    in another order."""
     chance = random.Random(count)
     keys = [wide_string(names // count // 2, place) for place in range(count)]
     # (each dictionary also takes an offset and a reference, of 7 bytes)
@@ -186,27 +209,64 @@ def lists_of(count, size, value=b"Qx"):
 def three_in_turn(size):
     """Returns dictionaries with three lists of long keys, in turn."""
     keys = [wide_string(size // 4 // 48, place) for place in range(48)]
-    return dictionaries_of([range(part + 16, part, -1) for part in (0, 16, 32)], keys, size * 15 // 32)
+    return dictionaries_of(
+        [range(part + 16, part, -1) for part in (0, 16, 32)], keys, size * 15 // 32
+    )
 
 
 def overlapping_later(size):
-    """Returns dictionaries with the same long keys in other orders, and then one whose keys all overlap."""
+    """Returns dictionaries with the same long keys in other orders, and then one whose
+    keys all overlap."""
     count, width, often = 16, 3, 40
     first = often + 2
     value, keys = first + count, [wide_string(size // 8 // count, place) for place in range(count)]
-    lists = [[first + (place + turn) % count for place in range(count)] for turn in range(1, often + 1)]
+    lists = [
+        [first + (place + turn) % count for place in range(count)] for turn in range(1, often + 1)
+    ]
     over = range(value + 1, value + 1 + size // 40)
     made = [dictionary(one, value, width) for one in [*lists, over]]
-    return joined([array(range(1, often + 2), width), *made, *keys, b"\x09",
-                   *overlapping_strings(len(over), size // 2)], width)
+    return joined(
+        [
+            array(range(1, often + 2), width),
+            *made,
+            *keys,
+            b"\x09",
+            *overlapping_strings(len(over), size // 2),
+        ],
+        width,
+    )
+
+
+def agreeing_keys(size):
+    """Returns an array of dictionaries of the same 256 long UTF-16 keys, each in another order. The keys overlap: their
+    heads stand every 64 bytes in what all of them repeat, so that two agree up to the last head."""
+    count, length, step, width = 256, 8192, 64, 2
+    chance, made = random.Random(count), size // 12_500
+    one = head(0x60, length)
+    region = (one + b"\x4e\x00" * ((step - len(one)) // 2)) * count + b"\x4e\x00" * length
+    tables = [
+        dictionary(chance.sample(range(1, count + 1), count), count + 1, width) for _ in range(made)
+    ]
+    objects = [array(range(count + 2, count + 2 + made), width), region, b"Qx", *tables]
+    starts = [8]
+    for written in objects:
+        starts.append(starts[-1] + len(written))
+    places = [starts[0], *range(starts[1], starts[1] + step * count, step), *starts[2:-1]]
+    # (the rest is no object)
+    return file(b"".join(objects).ljust(size), places, width)
 
 
 def late_dictionary(count, size, key, names):
-    """Returns an array of an array and a dictionary. In the inner array are dictionaries of the same `count` keys,
-    which `key` makes from a length and a place, in two orders in turn. The other dictionary has the keys `names`: 2 is
-    a boolean, those from 3 on are the `count` keys, and the largest number is no object."""
+    """Returns an array of an array and a dictionary. In the inner array are dictionaries of the
+    same `count` keys, which `key` makes from a length and a place, in two orders in turn. The other
+    dictionary has the keys `names`: 2 is a boolean, those from 3 on are the `count` keys, and the
+    largest number is no object."""
     width, at, length = 3, 5, size * 2 // 17 // count
-    lists = [chosen for _ in range(size // (6 * count + 10)) for chosen in (range(count), range(count - 1, -1, -1))]
+    lists = [
+        chosen
+        for _ in range(size // (6 * count + 10))
+        for chosen in (range(count), range(count - 1, -1, -1))
+    ]
     made, total = [], count * length
     while total < size:
         made.append(dictionary([at + place for place in lists[len(made)]], 3, width))
@@ -252,7 +312,8 @@ def late_256_keys(size):
 
 
 def one_dictionary(size, units_of):
-    """Returns a dictionary whose keys are UTF-16 strings of these units, in no order, all of the same length."""
+    """Returns a dictionary whose keys are UTF-16 strings of these units, in no order, all
+    of the same length."""
     length = len(units_of(0))
     count = size // (2 * length + 13)
     places = random.Random(length).sample(range(count), count)
@@ -261,18 +322,25 @@ def one_dictionary(size, units_of):
 
 
 def tied(place, blocks):
-    """Returns blocks of units, each with the same first unit or another by a bit of `place`, and the place itself."""
-    start = [unit for at, block in enumerate(blocks) for unit in (block[0] + (place >> at & 1), *block[1:])]
+    """Returns blocks of units, each with the same first unit or another by a bit of `place`, and
+    the place itself."""
+    start = [
+        unit
+        for at, block in enumerate(blocks)
+        for unit in (block[0] + (place >> at & 1), *block[1:])
+    ]
     return start + [0x4E00 + place // 256, 0x4E00 + place % 256]
 
 
 def tied_narrow_keys(size):
-    """Returns keys in few groups, whose next eight units of 8 bits are equal each time that they are compared."""
+    """Returns keys in few groups, whose next eight units of 8 bits are equal each time that
+    they are compared."""
     return one_dictionary(size, lambda place: tied(place, [[0x61] * 8] * 5))
 
 
 def tied_wide_keys(size):
-    """Returns keys in few groups, whose next four units of 16 bits are equal each time that they are compared."""
+    """Returns keys in few groups, whose next four units of 16 bits are equal each time that
+    they are compared."""
     return one_dictionary(size, lambda place: tied(place, [[0x4E00] * 4] * 5))
 
 
@@ -283,14 +351,21 @@ def changing_keys(size):
 
 def one_narrow_key(size):
     """Returns ideographs as keys, and one key of ASCII."""
-    return one_dictionary(size, lambda place: [0x61] * 8 if place == 0 else [0x4E00 + place % 97] * 6
-                          + [0x4E00 + place // 256, 0x4E00 + place % 256])
+    return one_dictionary(
+        size,
+        lambda place: [0x61] * 8
+        if place == 0
+        else [0x4E00 + place % 97] * 6 + [0x4E00 + place // 256, 0x4E00 + place % 256],
+    )
 
 
 def surrogate_keys(size):
     """Returns keys of characters above U+FFFF."""
-    return one_dictionary(size, lambda place: [0xD83D, 0xDE00 + place % 64] * 3
-                          + [0xD840 + place // 1024, 0xDC00 + place % 1024])
+    return one_dictionary(
+        size,
+        lambda place: [0xD83D, 0xDE00 + place % 64] * 3
+        + [0xD840 + place // 1024, 0xDC00 + place % 1024],
+    )
 
 
 def quotes(size):
@@ -305,17 +380,49 @@ def unseen_units(size):
 
 # The answer of `lint` for each file.
 ROWS = {
-    shared_keys: "refused 18", overlapping_keys: "refused 18", unordered_keys: "refused 18",
-    one_dictionary_often: "refused 14", one_string_often: "refused 18", one_place: "OK", one_key: "OK",
-    reordered_16: "OK", reordered_256: "OK", lists_in_turn: "OK", three_in_turn: "OK", overlapping_later: "refused 18",
-    overlapping_unreached: "OK", boolean_keys: "refused 13", keys_nowhere: "refused 5", late_wide_keys: "OK",
-    late_ascii_keys: "OK", late_256_keys: "OK", tied_narrow_keys: "OK", tied_wide_keys: "OK", changing_keys: "OK",
-    one_narrow_key: "OK", surrogate_keys: "OK", quotes: "OK", unseen_units: "OK",
+    shared_keys: "refused 18",
+    overlapping_keys: "refused 18",
+    unordered_keys: "refused 18",
+    one_dictionary_often: "refused 14",
+    one_string_often: "refused 18",
+    one_place: "OK",
+    one_short_place: "OK",
+    one_key: "OK",
+    reordered_16: "OK",
+    reordered_256: "OK",
+    lists_in_turn: "OK",
+    three_in_turn: "OK",
+    overlapping_later: "refused 18",
+    overlapping_unreached: "OK",
+    agreeing_keys: "OK",
+    boolean_keys: "refused 13",
+    keys_nowhere: "refused 5",
+    late_wide_keys: "OK",
+    late_ascii_keys: "OK",
+    late_256_keys: "OK",
+    tied_narrow_keys: "OK",
+    tied_wide_keys: "OK",
+    changing_keys: "OK",
+    one_narrow_key: "OK",
+    surrogate_keys: "OK",
+    quotes: "OK",
+    unseen_units: "OK",
 }
 
 # Files of values that repeat long strings, and the commands that write these each time.
-REPEATING = (one_place, one_key, reordered_16, reordered_256, three_in_turn, overlapping_unreached, late_wide_keys,
-             late_ascii_keys, late_256_keys)
+REPEATING = (
+    one_place,
+    one_short_place,
+    one_key,
+    reordered_16,
+    reordered_256,
+    three_in_turn,
+    overlapping_unreached,
+    agreeing_keys,
+    late_wide_keys,
+    late_ascii_keys,
+    late_256_keys,
+)
 REPEATERS = ("print", "openstep")
 
 COMMANDS = {
@@ -342,7 +449,8 @@ def words_of(command, path, out=os.devnull):
 
 
 def write(made, path):
-    """Writes an input, and another one beside it: a file that differs in an unused byte, a text with a line more."""
+    """Writes an input, and another one beside it: a file that differs in an unused byte, a text
+    with a line more."""
     other = made[:-32] + b"\x01" + made[-31:] if made.startswith(b"bplist00") else made + b"\n"
     for name, content in ((path, made), (path + " other", other)):
         with open(name, "wb") as target:
@@ -361,11 +469,15 @@ class Trial:
             self.measure.run([program, *words_of("binary1", self.path, self.path + " canonical")])
 
     def run(self, command, into=subprocess.DEVNULL):
-        return self.measure.run([self.program, *words_of(command, self.path)], into=into, source=self.path)
+        return self.measure.run(
+            [self.program, *words_of(command, self.path)], into=into, source=self.path
+        )
 
     def counted(self, command):
         """Returns the figure of a command whose output is measured too."""
-        run, length = self.measure.count([self.program, *words_of(command, self.path, "/dev/stdout")])
+        run, length = self.measure.count(
+            [self.program, *words_of(command, self.path, "/dev/stdout")]
+        )
         return Figure(self.size(command), run.processor, run.status, length)
 
     def figure(self, command, runs):
@@ -388,7 +500,9 @@ def compared(half, whole):
         each = [figure.seconds / max(figure.length, 1) * 1e9 for figure in (half, whole)]
         growth = each[1] / each[0]
         missed = [f"{each[1]:.1f} ns for each byte written"] * (each[1] > MOST_NANOSECONDS)
-        return f"{each[1]:.1f} ns ×{growth:.1f}", missed + [f"growth {growth:.2f}"] * (growth > MOST_GROWTH)
+        return f"{each[1]:.1f} ns ×{growth:.1f}", missed + [f"growth {growth:.2f}"] * (
+            growth > MOST_GROWTH
+        )
     longer = max(whole.seconds, LEAST_SECONDS) / max(half.seconds, LEAST_SECONDS)
     growth = longer / (whole.size / half.size)
     missed = [f"more than {MOST_SECONDS} s"] * (whole.seconds > MOST_SECONDS)
@@ -413,19 +527,32 @@ def row(program, measure, make):
     """Prints the row of a file, and returns a line for each limit that is missed."""
     name, cells, faults = make.__name__.replace("_", " "), dict.fromkeys(COMMANDS, ""), []
     with tempfile.TemporaryDirectory() as folder:
-        trials = [Trial(program, measure, os.path.join(folder, str(size)), make(size)) for size in SIZES]
+        trials = [
+            Trial(program, measure, os.path.join(folder, str(size)), make(size)) for size in SIZES
+        ]
         size, answer = trials[1].size("lint"), trials[1].answer
         if not all(trial.answer.startswith(ROWS[make]) for trial in trials):
             faults.append(f"{name}: {trials[0].answer}, {answer}, not {ROWS[make]}")
         accepted = all(trial.answer == "OK" for trial in trials)
-        for command in (command for command in COMMANDS if accepted or "CANONICAL" not in COMMANDS[command]):
+        for command in (
+            command for command in COMMANDS if accepted or "CANONICAL" not in COMMANDS[command]
+        ):
             half, whole = figures(trials, command, make in REPEATING)
             cell, missed = compared(half, whole)
-            missed += [f"status {whole.status}"] * (whole.status not in statuses(command, ROWS[make]))
+            missed += [f"status {whole.status}"] * (
+                whole.status not in statuses(command, ROWS[make])
+            )
             cells[command] = cell + " missed" * bool(missed)
-            lengths = "" if whole.length is None else f", {half.length:,} and {whole.length:,} bytes written"
-            faults += [f"{command} of {name}: {one} ({half.seconds:.3f} s of {half.size:,} bytes, "
-                       f"{whole.seconds:.3f} s of {whole.size:,}{lengths})" for one in missed]
+            lengths = (
+                ""
+                if whole.length is None
+                else f", {half.length:,} and {whole.length:,} bytes written"
+            )
+            faults += [
+                f"{command} of {name}: {one} ({half.seconds:.3f} s of {half.size:,} bytes, "
+                f"{whole.seconds:.3f} s of {whole.size:,}{lengths})"
+                for one in missed
+            ]
     print(f"| {name} | {size:,} | {answer} | {' | '.join(cells.values())} |", flush=True)
     return faults
 
@@ -439,13 +566,21 @@ def main():
     names = arguments.only.split(",") if arguments.only else [*every]
     if unknown := set(names).difference(every):
         sys.exit(f"no such file: {', '.join(unknown)}")
-    print(f"| file | bytes | answer | {' | '.join(COMMANDS)} |\n|---|---|---|{'---|' * len(COMMANDS)}")
+    print(
+        f"| file | bytes | answer | {' | '.join(COMMANDS)} |\n|---|---|---|{'---|' * len(COMMANDS)}"
+    )
     faults = []
     with tempfile.TemporaryDirectory() as folder:
         program, measure = os.path.abspath(arguments.program), Measure(folder)
         for name in names:
             faults += row(program, measure, every[name])
-    print("\n".join(["", *(f"missed: {fault}" for fault in faults)] if faults else ["", "No limit is missed."]))
+    print(
+        "\n".join(
+            ["", *(f"missed: {fault}" for fault in faults)]
+            if faults
+            else ["", "No limit is missed."]
+        )
+    )
     return 1 if faults else 0
 
 

@@ -18,28 +18,37 @@ class Measure:
 
     def __init__(self, folder):
         self.program, self.file = os.path.join(folder, "measure"), os.path.join(folder, "measured")
-        subprocess.run(["cc", "-O1", "-o", self.program, os.path.join(HERE, "measure.c")], check=True)
+        subprocess.run(
+            ["cc", "-O1", "-o", self.program, os.path.join(HERE, "measure.c")], check=True
+        )
 
     def run(self, words, errors=None, into=subprocess.PIPE, source=None):
-        """Returns the status, the output unless it goes to a file, the elapsed and the processor seconds, and the
-        greatest resident size. Standard input is the file `source`, if one is given."""
+        """Returns the status, the output unless it goes to a file, the elapsed and the
+        processor seconds, and the greatest resident size. Standard input is the file
+        `source`, if one is given."""
         words = [self.program, self.file, str(MOST), *words]
         with open(source or os.devnull, "rb") as given:
-            ran = subprocess.run(words, stdin=given if source else None, stdout=into, stderr=errors, check=False)
+            ran = subprocess.run(
+                words, stdin=given if source else None, stdout=into, stderr=errors, check=False
+            )
         with open(self.file, encoding="ascii") as measured:
             seconds, processor, size = measured.read().split()
         printed = (ran.stdout or b"").decode().strip()
         return Run(ran.returncode, printed, float(seconds), float(processor), int(size) * 1024)
 
     def count(self, words, source=None):
-        """Returns the run and the number of bytes that it writes to standard output, which are not kept."""
-        with subprocess.Popen(["wc", "-c"], stdin=subprocess.PIPE, stdout=subprocess.PIPE) as counter:
+        """Returns the run and the number of bytes that it writes to standard output,
+        which are not kept."""
+        with subprocess.Popen(
+            ["wc", "-c"], stdin=subprocess.PIPE, stdout=subprocess.PIPE
+        ) as counter:
             run = self.run(words, into=counter.stdin, source=source)
             return run, int(counter.communicate()[0])
 
 
 def instructions(words):
-    """Returns how many instructions a run takes, as counted by callgrind, or None if valgrind is not installed."""
+    """Returns how many instructions a run takes, as counted by callgrind, or None if valgrind
+    is not installed."""
     if shutil.which("valgrind") is None:
         return None
     words = ["valgrind", "--tool=callgrind", "--callgrind-out-file=/dev/null", *words]

@@ -1,7 +1,8 @@
-"""The programs that bench.py compares plistconv with. Those that are not installed are skipped with a line.
+"""The programs that bench.py compares plistconv with. Those that are not installed are
+skipped with a line.
 
-Each is a command that a source and a target are appended to. The drivers in bench/peers are built in the given folder,
-and not in the repository.
+Each is a command that a source and a target are appended to. The drivers in bench/peers are built
+in the given folder, and not in the repository.
 """
 import glob
 import os
@@ -17,8 +18,12 @@ PYTHON = "/usr/bin/python3"
 def quiet(words, **more):
     """Returns whether the command exists and succeeds."""
     try:
-        return subprocess.run(words, stdout=subprocess.DEVNULL, stderr=subprocess.DEVNULL, check=False,
-                              **more).returncode == 0
+        return (
+            subprocess.run(
+                words, stdout=subprocess.DEVNULL, stderr=subprocess.DEVNULL, check=False, **more
+            ).returncode
+            == 0
+        )
     except OSError:
         return False
 
@@ -29,7 +34,8 @@ def python():
 
 
 def copy(folder):
-    """Reads the file and writes it, a lower bound for every conversion that keeps its input in memory."""
+    """Reads the file and writes it, a lower bound for every conversion that keeps
+    its input in memory."""
     program = os.path.join(folder, "copy")
     built = quiet(["cc", "-O2", "-o", program, os.path.join(DRIVERS, "copy.c")])
     return [program] if built else None
@@ -41,10 +47,19 @@ def plist_crate(folder):
         return None
     root = os.path.join(folder, "plist_crate")
     shutil.copytree(os.path.join(DRIVERS, "plist_crate"), root)
-    words = ["cargo", "build", "--offline", "--release",
-             "--config", 'source.crates-io.replace-with="debian"',
-             "--config", f'source.debian.directory="{REGISTRY}"']
-    return [os.path.join(root, "target", "release", "plist_crate")] if quiet(words, cwd=root) else None
+    words = [
+        "cargo",
+        "build",
+        "--offline",
+        "--release",
+        "--config",
+        'source.crates-io.replace-with="debian"',
+        "--config",
+        f'source.debian.directory="{REGISTRY}"',
+    ]
+    return (
+        [os.path.join(root, "target", "release", "plist_crate")] if quiet(words, cwd=root) else None
+    )
 
 
 def libplist(folder):
@@ -65,12 +80,19 @@ def openstep_plist(folder):
 def pl(folder):
     """GNUstep's pl, which writes a text and no binary property list."""
     found = shutil.which("pl")
-    return ["/bin/sh", "-c", f"exec {found} <\"$1\" >\"$2\"", "pl"] if found else None
+    return ["/bin/sh", "-c", f'exec {found} <"$1" >"$2"', "pl"] if found else None
 
 
-OF_BINARY = {"read and write": (copy, "cc"), "plist (Rust)": (plist_crate, "cargo and librust-plist-dev"),
-             "libplist": (libplist, "libplist-dev"), "plistlib": (plistlib, "python3")}
-OF_TEXT = {"openstep_plist": (openstep_plist, "python3-openstep-plist"), "pl": (pl, "gnustep-base-runtime")}
+OF_BINARY = {
+    "read and write": (copy, "cc"),
+    "plist (Rust)": (plist_crate, "cargo and librust-plist-dev"),
+    "libplist": (libplist, "libplist-dev"),
+    "plistlib": (plistlib, "python3"),
+}
+OF_TEXT = {
+    "openstep_plist": (openstep_plist, "python3-openstep-plist"),
+    "pl": (pl, "gnustep-base-runtime"),
+}
 
 
 def found(kinds, folder):

@@ -1,16 +1,26 @@
-"""Plots time and memory against the size of the input, for each kind of file and each program, as SVG.
+"""Plots time and memory against the size of the input, for each kind of file and
+each program, as SVG.
 
-Both axes are logarithmic, so linear growth is a straight line at 45 degrees. The SVG is written as text, without a
-library.
+Both axes are logarithmic, so linear growth is a straight line at 45 degrees. The SVG is written as
+text, without a library.
 """
 import math
 
-COLOURS = {"plistconv": "#c1121f", "read and write": "#888888", "plist (Rust)": "#b5651d", "libplist": "#2a7f3f",
-           "plistlib": "#1f5fa8", "openstep_plist": "#7b3fa0", "pl": "#0f8b8d"}
+COLOURS = {
+    "plistconv": "#c1121f",
+    "read and write": "#888888",
+    "plist (Rust)": "#b5651d",
+    "libplist": "#2a7f3f",
+    "plistlib": "#1f5fa8",
+    "openstep_plist": "#7b3fa0",
+    "pl": "#0f8b8d",
+}
 WIDTH, HEIGHT, GAP, LEFT, TOP = 210, 170, 44, 62, 78
 ROWS = (("seconds of the processor", "s"), ("greatest memory", "B"))
-STYLE = ("text{font:11px sans-serif;fill:#222}.t{font-size:12px;font-weight:bold}.h{font-size:15px;font-weight:bold}"
-         ".a{fill:#666;font-size:10px}.g{stroke:#ddd;stroke-width:1}.f{fill:none;stroke:#999}")
+STYLE = (
+    "text{font:11px sans-serif;fill:#222}.t{font-size:12px;font-weight:bold}.h{font-size:15px;font-weight:bold}"
+    ".a{fill:#666;font-size:10px}.g{stroke:#ddd;stroke-width:1}.f{fill:none;stroke:#999}"
+)
 
 
 class Scale:
@@ -26,7 +36,7 @@ class Scale:
         return share * self.pixels
 
     def marks(self):
-        return [self.step ** power for power in range(self.low, self.high + 1)]
+        return [self.step**power for power in range(self.low, self.high + 1)]
 
 
 def text(x, y, words, kind="", anchor="middle"):
@@ -50,24 +60,35 @@ def panel(x, y, title, curves, across, up, unit):
     parts = [text(x + WIDTH / 2, y - 7, title, "t")]
     for number in up.marks():
         height = y + HEIGHT - up.at(number)
-        parts += [line(x, height, x + WIDTH, height), text(x - 5, height + 3.5, short(number, unit), "a", "end")]
+        parts += [
+            line(x, height, x + WIDTH, height),
+            text(x - 5, height + 3.5, short(number, unit), "a", "end"),
+        ]
     for number in across.marks():
         place = x + across.at(number)
-        parts += [line(place, y, place, y + HEIGHT), text(place, y + HEIGHT + 13, short(number, "B"), "a")]
+        parts += [
+            line(place, y, place, y + HEIGHT),
+            text(place, y + HEIGHT + 13, short(number, "B"), "a"),
+        ]
     parts.append(f'<rect class="f" x="{x}" y="{y}" width="{WIDTH}" height="{HEIGHT}"/>')
     for program, points in curves.items():
         places = [(x + across.at(size), y + HEIGHT - up.at(number)) for size, number in points]
         joined = " ".join(f"{right:.1f},{down:.1f}" for right, down in places)
         thick = 2.5 if program == "plistconv" else 1.5
         colour = COLOURS[program]
-        parts.append(f'<polyline points="{joined}" fill="none" stroke="{colour}" stroke-width="{thick}"/>')
-        parts += [f'<circle cx="{right:.1f}" cy="{down:.1f}" r="{thick + .5}" fill="{colour}"/>'
-                  for right, down in places]
+        parts.append(
+            f'<polyline points="{joined}" fill="none" stroke="{colour}" stroke-width="{thick}"/>'
+        )
+        parts += [
+            f'<circle cx="{right:.1f}" cy="{down:.1f}" r="{thick + .5}" fill="{colour}"/>'
+            for right, down in places
+        ]
     return parts
 
 
 def curves_of(figures, name, which):
-    """Returns the points of each program: the size of the input, and the figure at index `which`."""
+    """Returns the points of each program: the size of the input, and the figure
+    at index `which`."""
     curves = {}
     for (file, _), (octets, found) in figures.items():
         for program, figure in found.items():
@@ -79,8 +100,10 @@ def curves_of(figures, name, which):
 def legend(programs, y):
     parts, x = [], LEFT
     for program in programs:
-        parts += [f'<rect x="{x}" y="{y - 9}" width="18" height="4" fill="{COLOURS[program]}"/>',
-                  text(x + 23, y - 3, program, "", "start")]
+        parts += [
+            f'<rect x="{x}" y="{y - 9}" width="18" height="4" fill="{COLOURS[program]}"/>',
+            text(x + 23, y - 3, program, "", "start"),
+        ]
         x += 42 + 7 * len(program)
     return parts
 
@@ -89,7 +112,10 @@ def row_of(figures, names, which, y, across):
     """Returns the parts of a row of panels, one for each file, and the programs in them."""
     label, unit = ROWS[which]
     curves = {name: curves_of(figures, name, which) for name in names}
-    up = Scale([number for found in curves.values() for points in found.values() for _, number in points], HEIGHT)
+    up = Scale(
+        [number for found in curves.values() for points in found.values() for _, number in points],
+        HEIGHT,
+    )
     parts = [text(LEFT - 50, y - 26, label, "h", "start")]
     for column, name in enumerate(names):
         parts += panel(LEFT + column * (WIDTH + GAP), y, name, curves[name], across, up, unit)
@@ -103,9 +129,11 @@ def picture(figures):
     parts, programs, y = [], [], TOP
     for first in range(0, len(names), 4):
         for which in range(len(ROWS)):
-            more, found = row_of(figures, names[first:first + 4], which, y, across)
+            more, found = row_of(figures, names[first : first + 4], which, y, across)
             parts, programs, y = parts + more, programs + found, y + HEIGHT + GAP + 24
     width = LEFT + min(len(names), 4) * (WIDTH + GAP)
-    head = (f'<svg xmlns="http://www.w3.org/2000/svg" viewBox="0 0 {width} {y - GAP}" width="{width}" '
-            f'height="{y - GAP}"><style>{STYLE}</style><rect width="100%" height="100%" fill="white"/>')
+    head = (
+        f'<svg xmlns="http://www.w3.org/2000/svg" viewBox="0 0 {width} {y - GAP}" width="{width}" '
+        f'height="{y - GAP}"><style>{STYLE}</style><rect width="100%" height="100%" fill="white"/>'
+    )
     return "\n".join([head, *legend(dict.fromkeys(programs), 26), *parts, "</svg>"]) + "\n"

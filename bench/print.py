@@ -1,13 +1,14 @@
 #!/usr/bin/env python3
-"""Measures `plistconv print`. Its time is compared with that of converting the same file and then writing as many bytes
-as it prints, and its memory with that of `lint`.
+"""Measures `plistconv print`. Its time is compared with that of converting the same file and then
+writing as many bytes as it prints, and its memory with that of `lint`.
 
 usage: bench/print.py [PLISTCONV]   (the program to measure, ./plistconv if not given)
 
-The files are the binary ones of bench.py, and two arrays of references to one boolean, whose printed text is far longer
-than the files. The output goes to a file. Time is processor time, the least of five runs in turns. The status is 1 if
-`mixed` takes longer than converting it and writing as many bytes, if a print takes over 1 MiB more than `lint` of the
-same file, or if the memory beyond the size of the file differs by over 1 MiB between both arrays.
+The files are the binary ones of bench.py, and two arrays of references to one boolean, whose
+printed text is far longer than the files. The output goes to a file. Time is processor time, the
+least of five runs in turns. The status is 1 if `mixed` takes longer than converting it and writing
+as many bytes, if a print takes over 1 MiB more than `lint` of the same file, or if the memory
+beyond the size of the file differs by over 1 MiB between both arrays.
 """
 import collections
 import os
@@ -22,7 +23,9 @@ from measure import Measure
 REFERENCES = (1_000_000, 16_777_215)
 MEBIBYTE = 1 << 20
 
-Figures = collections.namedtuple("Figures", "size printed print convert write lint_memory print_memory")
+Figures = collections.namedtuple(
+    "Figures", "size printed print convert write lint_memory print_memory"
+)
 
 
 def flags(count):
@@ -53,7 +56,9 @@ def measured(measure, program, path, folder):
 def main():
     program = os.path.abspath(sys.argv[1] if len(sys.argv) > 1 else "./plistconv")
     faults, beside = [], []
-    print("| file | octets | printed | print, s | convert, s | write, s | lint, MiB | print, MiB |\n|---|---|---|---|---|---|---|---|")
+    print(
+        "| file | octets | printed | print, s | convert, s | write, s | lint, MiB | print, MiB |\n|---|---|---|---|---|---|---|---|"
+    )
     with tempfile.TemporaryDirectory() as folder:
         measure = Measure(folder)
         path = os.path.join(folder, "in")
@@ -65,8 +70,11 @@ def main():
                     into.write(flags(name))
             it = measured(measure, program, path, folder)
             shown = name if name in files.BINARY else f"{name:,} references"
-            print(f"| {shown} | {it.size:,} | {it.printed:,} | {it.print:.3f} | {it.convert:.3f} | {it.write:.3f} "
-                  f"| {it.lint_memory / MEBIBYTE:.1f} | {it.print_memory / MEBIBYTE:.1f} |", flush=True)
+            print(
+                f"| {shown} | {it.size:,} | {it.printed:,} | {it.print:.3f} | {it.convert:.3f} | {it.write:.3f} "
+                f"| {it.lint_memory / MEBIBYTE:.1f} | {it.print_memory / MEBIBYTE:.1f} |",
+                flush=True,
+            )
             if name == "mixed" and it.print > it.convert + it.write:
                 faults.append("mixed: takes longer than converting and writing")
             if it.print_memory > it.lint_memory + MEBIBYTE:

@@ -1,20 +1,23 @@
 #!/usr/bin/env python3
-"""Measures what hostile input costs `plistconv`: files and texts that are refused, at three sizes that grow by a factor
-of two; small files that are accepted and encode large values; and the memory of each command.
+"""Measures what hostile input costs `plistconv`: files and texts that are refused, at three sizes
+that grow by a factor of two; small files that are accepted and encode large values; and the
+memory of each command.
 
 usage: bench/refusals.py [PLISTCONV]   (the program to measure, ./plistconv if not given)
 
-Each answer must be the one listed here. Of the first table, a refusal may take at most 16 MiB of memory, and input of a
-few hundred bytes must be refused within 10 ms. If callgrind is installed (Debian's valgrind), the instructions of a
-refusal, less those of an empty run, must not grow more than 1.2 times as much as the bytes of its input. Time is
-processor time, the least of three runs. Of the second table, an accepted file may take at most 60 bytes of memory for
-each node, not counting the input and the output. Memory is the greatest resident size.
+Each answer must be the one listed here. Of the first table, a refusal may take at most 16 MiB of
+memory, and input of a few hundred bytes must be refused within 10 ms. If callgrind is installed
+(Debian's valgrind), the instructions of a refusal, less those of an empty run, must not grow more
+than 1.2 times as much as the bytes of its input. Time is processor time, the least of three runs.
+Of the second table, an accepted file may take at most 60 bytes of memory for each node, not
+counting the input and the output. Memory is the greatest resident size.
 
-The third table has the memory of each command for each byte of input, or in MB for small files that encode large
-values, and the most that is allowed. `same` compares two files, which differ in an unused byte, and its memory is
-divided by the bytes of both.
+The third table has the memory of each command for each byte of input, or in MB for small files that
+encode large values, and the most that is allowed. `same` compares two files, which differ in an
+unused byte, and its memory is divided by the bytes of both.
 
-A row or cell that fails ends with a cross, and the status is 1. Files are made in separate processes (--make).
+A row or cell that fails ends with a cross, and the status is 1. Files are made in
+separate processes (--make).
 """
 import collections
 import itertools
@@ -40,7 +43,9 @@ def arrays_named_twice(levels, last=b"\xa0"):
 def dictionaries_named_twice(levels):
     """Returns dictionaries that each have the next one for two keys, down to an empty one."""
     keys = bytes([levels, levels + 1])
-    return joined([b"\xd2" + keys + bytes([n, n]) for n in range(1, levels)] + [b"\xd0", b"Qa", b"Qb"], 1)
+    return joined(
+        [b"\xd2" + keys + bytes([n, n]) for n in range(1, levels)] + [b"\xd0", b"Qa", b"Qb"], 1
+    )
 
 
 def chain(count):
@@ -67,7 +72,7 @@ def too_many_objects(size):
 
 def heavy_data(size):
     """Returns an array that contains data once more than the limit allows."""
-    count = 2 ** 30 // size + 1
+    count = 2**30 // size + 1
     return joined([head(0xA0, count) + b"\x01" * count, head(0x40, size) + bytes(size)], 1)
 
 
@@ -98,8 +103,8 @@ def fan(count, object):
 
 ACCEPTED = {
     "16,777,215 references to a boolean": (lambda: fan(16_777_215, b"\x09"), 16_777_216),
-    "22 levels of arrays, each named twice": (lambda: arrays_named_twice(22), 2 ** 22 - 1),
-    "24 levels of arrays, each named twice": (lambda: arrays_named_twice(24), 2 ** 24 - 1),
+    "22 levels of arrays, each named twice": (lambda: arrays_named_twice(22), 2**22 - 1),
+    "24 levels of arrays, each named twice": (lambda: arrays_named_twice(24), 2**24 - 1),
     "1 MiB of data, 1,024 times": (lambda: fan(1024, head(0x40, MIB) + bytes(MIB)), 1025),
 }
 
@@ -124,20 +129,25 @@ def strings_file(size):
 
 
 def short_keys(count, after):
-    """Returns a dictionary of `count` distinct keys of four letters, without values, and what comes after them."""
+    """Returns a dictionary of `count` distinct keys of four letters, without values, and what
+    comes after them."""
     keys = itertools.product(b"abcdefghijklmnopqrstuvwxyz012345", repeat=4)
     return b"{" + b"".join(bytes(key) + b";" for key in itertools.islice(keys, count)) + after
 
 
 def shared_dictionaries(levels):
     """Returns dictionaries that each have the next one for two long keys, down to an empty one."""
-    made = [b"\xd2" + bytes([levels + 2 * n, levels + 2 * n + 1, n + 1, n + 1]) for n in range(levels - 1)]
+    made = [
+        b"\xd2" + bytes([levels + 2 * n, levels + 2 * n + 1, n + 1, n + 1])
+        for n in range(levels - 1)
+    ]
     keys = [head(0x50, 105) + b"%0105d" % n for n in range(2 * levels - 2)]
     return joined([*made, b"\xd0", *keys], 1)
 
 
 def narrow_offsets(size):
-    """Returns a file with an offset of one byte for each of its many objects, whose first names the last."""
+    """Returns a file with an offset of one byte for each of its many objects, whose
+    first names the last."""
     references = number(1, 4) * 20 + number(size - 1, 4) * 10
     body = b"bplist00" + head(0xA0, 30) + references
     text = len(body)
@@ -152,8 +162,8 @@ MEASURED = ("lint", "binary1", "openstep", "print", "same")
 
 Row = collections.namedtuple("Row", "make answer most openstep", defaults=(None,))
 
-# The input, the beginning of the answer, the most bytes of memory for each byte of input, and the answer of `convert
-# openstep` if that is another one.
+# The input, the beginning of the answer, the most bytes of memory for each byte of input, and the
+# answer of `convert openstep` if that is another one.
 MEMORY = {
     "short dictionaries, then an error": Row(lambda: often(b"{a;},", 4_000_000), "refused 31", 12),
     "empty arrays, then an error": Row(lambda: often(b"(),", 4_000_000), "refused 31", 12),
@@ -168,13 +178,15 @@ MEMORY = {
     "nested arrays": Row(lambda: often(nested(400), 4_000_000, after=b")"), "", 16),
     "short strings": Row(lambda: often(b"a,", 4_000_000, after=b")"), "", 16),
     "empty arrays": Row(lambda: often(b"(),", 4_000_000, after=b")"), "", 16),
-    "two long lists of keys": Row(lambda: lists_of(65_000, 9_200_000, b"\x09"), "", 12, "refused 40"),
+    "two long lists of keys": Row(
+        lambda: lists_of(65_000, 9_200_000, b"\x09"), "", 12, "refused 40"
+    ),
     # (12 bytes are kept for each object, here of one byte, and the file itself is in memory)
     "offsets of one byte": Row(lambda: narrow_offsets(16_000_000), "", 14, "refused 40"),
 }
 
-# Small files that encode large values, and the most MB of memory of the commands that keep the canonical file and some
-# bytes for each node: one and a half times what these took.
+# Small files that encode large values, and the most MB of memory of the commands that keep the
+# canonical file and some bytes for each node: one and a half times what these took.
 SMALL = {
     "shared dictionaries": (lambda: shared_dictionaries(20), {"binary1": 35, "same": 100}),
     "shared arrays": (lambda: arrays_named_twice(24), {"binary1": 400, "same": 760}),
@@ -193,7 +205,9 @@ def make(name, size, path):
 
 
 def made(name, size, path):
-    subprocess.run([sys.executable, os.path.abspath(__file__), "--make", name, str(size), path], check=True)
+    subprocess.run(
+        [sys.executable, os.path.abspath(__file__), "--make", name, str(size), path], check=True
+    )
     return os.path.getsize(path)
 
 
@@ -208,7 +222,8 @@ class Growth:
         self.first = None
 
     def of(self, size):
-        """Returns the instructions per byte divided by those of the first size, or None if they are not counted."""
+        """Returns the instructions per byte divided by those of the first size, or None if
+        they are not counted."""
         count = instructions(self.words) if self.empty is not None else None
         if count is None:
             return None
@@ -224,7 +239,9 @@ def cross(good):
 def refused(measure, program, source, target):
     """Prints the rows of refused inputs, and returns how many fail."""
     wrong, growth = 0, Growth(program, source, target)
-    print("| refused | bytes | answer | ms | MiB | instructions for each byte, divided by those of the first size |")
+    print(
+        "| refused | bytes | answer | ms | MiB | instructions for each byte, divided by those of the first size |"
+    )
     print("|---|---|---|---|---|---|")
     for name, (_, sizes, answer) in REFUSED.items():
         growth.begin()
@@ -232,22 +249,30 @@ def refused(measure, program, source, target):
             size = made(name, parameter, source)
             runs = [measure.run(growth.words) for _ in range(3)]
             line = runs[0].printed.removeprefix(source + ": refused ")
-            seconds, used = min(run.processor for run in runs), max(run.octets for run in runs) / MIB
+            seconds, used = (
+                min(run.processor for run in runs),
+                max(run.octets for run in runs) / MIB,
+            )
             grown = growth.of(size)
             good = runs[0].status == 2 and line.startswith(answer) and used < 16
             good = good and (size > 1000 or seconds < 0.01) and (grown is None or grown < 1.2)
             wrong += not good
             shown = "" if grown is None else f"{grown:.2f}"
-            print(f"| {name} | {size:,} | {line} | {seconds * 1000:.1f} | {used:.1f} | {shown} |{cross(good)}",
-                  flush=True)
+            print(
+                f"| {name} | {size:,} | {line} | {seconds * 1000:.1f} | {used:.1f} | {shown} |{cross(good)}",
+                flush=True,
+            )
     return wrong
 
 
 def accepted(measure, program, source, target):
-    """Prints the rows of accepted files, whose canonical files must be canonical, and returns how many fail."""
+    """Prints the rows of accepted files, whose canonical files must be canonical, and
+    returns how many fail."""
     wrong = 0
-    print("| accepted | bytes | nodes | canonical bytes | seconds | MB | bytes of memory for each node, without both "
-          "files | its check: seconds | MB |")
+    print(
+        "| accepted | bytes | nodes | canonical bytes | seconds | MB | bytes of memory for each node, without both "
+        "files | its check: seconds | MB |"
+    )
     print("|---|---|---|---|---|---|---|---|---|")
     for name, (_, nodes) in ACCEPTED.items():
         size = made(name, 0, source)
@@ -259,8 +284,11 @@ def accepted(measure, program, source, target):
         good = good and (each <= 60 or nodes < MIB)
         wrong += not good
         shown = f"{each:.0f}" if nodes > MIB else ""
-        print(f"| {name} | {size:,} | {nodes:,} | {length:,} | {run.processor:.2f} | {run.octets / 1e6:.0f} | {shown} "
-              f"| {checked.processor:.2f} | {checked.octets / 1e6:.0f} |{cross(good)}", flush=True)
+        print(
+            f"| {name} | {size:,} | {nodes:,} | {length:,} | {run.processor:.2f} | {run.octets / 1e6:.0f} | {shown} "
+            f"| {checked.processor:.2f} | {checked.octets / 1e6:.0f} |{cross(good)}",
+            flush=True,
+        )
     return wrong
 
 
@@ -270,7 +298,9 @@ def measured(measure, program, source, answers):
     for command in MEASURED:
         into = subprocess.DEVNULL if command == "print" else subprocess.PIPE
         run = measure.run([program, *words_of(command, source)], into=into)
-        line, answer = run.printed.removeprefix(source + ": "), answers.get(command, answers["lint"])
+        line, answer = run.printed.removeprefix(source + ": "), answers.get(
+            command, answers["lint"]
+        )
         good = run.status == (2 if answer.startswith("refused") else 0)
         found[command] = run, good and (command == "print" or line.startswith(answer))
     return found
@@ -279,7 +309,9 @@ def measured(measure, program, source, answers):
 def memory(measure, program, source):
     """Prints the rows of memory, and returns how many cells fail."""
     wrong = 0
-    print(f"| bytes of memory for each byte, at most | bytes | answer | {' | '.join(MEASURED)} | longest, s |")
+    print(
+        f"| bytes of memory for each byte, at most | bytes | answer | {' | '.join(MEASURED)} | longest, s |"
+    )
     print("|---|---|---|---|---|---|---|---|---|")
     for name, row in MEMORY.items():
         size, cells, answer = made(name, 0, source), [], row.answer
@@ -291,7 +323,10 @@ def memory(measure, program, source):
             wrong += not good
             cells.append(f"{each:.1f}{cross(good)}")
         longest = max(run.processor for run, _ in found.values())
-        print(f"| {name}, {row.most} | {size:,} | {answer or 'OK'} | {' | '.join(cells)} | {longest:.2f} |", flush=True)
+        print(
+            f"| {name}, {row.most} | {size:,} | {answer or 'OK'} | {' | '.join(cells)} | {longest:.2f} |",
+            flush=True,
+        )
     return wrong
 
 
@@ -322,8 +357,10 @@ def main():
         source, target = os.path.join(folder, "source"), os.path.join(folder, "target")
         measure = Measure(folder)
         runs = [measure.run([program, "--version"]) for _ in range(3)]
-        print(f"An empty run takes {min(run.processor for run in runs) * 1000:.1f} ms and "
-              f"{max(run.octets for run in runs) / MIB:.1f} MiB.\n")
+        print(
+            f"An empty run takes {min(run.processor for run in runs) * 1000:.1f} ms and "
+            f"{max(run.octets for run in runs) / MIB:.1f} MiB.\n"
+        )
         wrong = refused(measure, program, source, target)
         print()
         wrong += accepted(measure, program, source, target)

@@ -3,10 +3,11 @@
 
 usage: bench/refused.py PROGRAM [WORD..] [< INPUT]
 
-The program runs once with ample memory, and then once for each allocation, which a small library (bench/refuse.c, built
-with cc) makes fail. Each run must end like the first, with the same output, or report that it is out of memory: status
-5 for plistconv, AllocError for a test of a crate, such as
-`crates/plist_tests/out/plist_tests_tests judge_tests::want_of_memory`. Prints how many runs ended in which way.
+The program runs once with ample memory, and then once for each allocation, which a small library
+(bench/refuse.c, built with cc) makes fail. Each run must end like the first, with the same output,
+or report that it is out of memory: status 5 for plistconv, AllocError for a test of a crate, such
+as `crates/plist_tests/out/plist_tests_tests judge_tests::want_of_memory`. Prints how many runs
+ended in which way.
 """
 import collections
 import os
@@ -33,7 +34,19 @@ def main():
     endings = collections.Counter()
     with tempfile.TemporaryDirectory() as folder:
         library, count = os.path.join(folder, "refuse.so"), os.path.join(folder, "count")
-        subprocess.run(["cc", "-shared", "-fPIC", "-O1", "-o", library, os.path.join(HERE, "refuse.c"), "-ldl"], check=True)
+        subprocess.run(
+            [
+                "cc",
+                "-shared",
+                "-fPIC",
+                "-O1",
+                "-o",
+                library,
+                os.path.join(HERE, "refuse.c"),
+                "-ldl",
+            ],
+            check=True,
+        )
         ample = run(words, octets, library, 0, count)[:2]
         number, allocations = 0, 1
         while number <= allocations:

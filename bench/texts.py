@@ -65,7 +65,8 @@ def identifier(chance):
 
 
 def module(number, chance):
-    """Returns the objects of eight source files in their sections, with group, phases and settings."""
+    """Returns the objects of eight source files in their sections, with group,
+    phases and settings."""
     name = f"Module{number}"
     objects, files, builds = [], "", ""
 
@@ -100,8 +101,10 @@ def project(size):
             sections[section].append(text)
             length += len(text)
         number += 1
-    parts = ["// !$*UTF8*$!\n{\n\tarchiveVersion = 1;\n\tclasses = {\n\t};\n",
-             "\tobjectVersion = 46;\n\tobjects = {\n"]
+    parts = [
+        "// !$*UTF8*$!\n{\n\tarchiveVersion = 1;\n\tclasses = {\n\t};\n",
+        "\tobjectVersion = 46;\n\tobjects = {\n",
+    ]
     for name, objects in sections.items():
         text = "".join(sorted(objects))
         parts.append(f"\n/* Begin {name} section */\n{text}/* End {name} section */\n")
@@ -110,21 +113,29 @@ def project(size):
 
 
 VALUES = (
-    "Save the changes in \\\"%@\\\"?", "%d of %d records were read.\\nGo on?", "Open the folder",
-    "Cancel", "Änderungen in „%@“ sichern?", "Der Ordner ist nicht größer als %lld Oktette.",
-    "Сохранить изменения?", "“%@”への変更を保存しますか？", "フォルダを開く", "Done 🎉 \\U2713",
+    'Save the changes in \\"%@\\"?',
+    "%d of %d records were read.\\nGo on?",
+    "Open the folder",
+    "Cancel",
+    "Änderungen in „%@“ sichern?",
+    "Der Ordner ist nicht größer als %lld Oktette.",
+    "Сохранить изменения?",
+    "“%@”への変更を保存しますか？",
+    "フォルダを開く",
+    "Done 🎉 \\U2713",
 )
 
 
 def strings(size, form):
-    """Returns a strings file of `size` bytes, or a few hundred more; UTF-16 has a byte order mark."""
+    """Returns a strings file of `size` bytes, or a few hundred more; UTF-16 has
+    a byte order mark."""
     chance = random.Random(13)
     parts, length, number = [b"" if form == "utf-8" else "\ufeff".encode(form)], 0, 0
     while length < size:
         window = chance.choice(("main", "settings", "export"))
         part = chance.choice(("title", "button", "note"))
         value = f"{chance.choice(VALUES)} ({chance.randrange(10_000)})"
-        line = f"\"{window}.{part}.{number}\" = \"{value}\";\n"
+        line = f'"{window}.{part}.{number}" = "{value}";\n'
         if number % 8 == 0:
             line = f"\n/* The texts of window {number // 8}, as they are shown. */\n{line}"
         elif number % 8 == 5:

@@ -3,8 +3,9 @@
 
     bindings/rows.py [--print]
 
-The answers come from fuzz/oracle.py, a second implementation of docs/FORMATS.md, never from the library. The exit status
-is 1 if rows.txt differs from them. With --print, prints what rows.txt should contain.
+The answers come from fuzz/oracle.py, a second implementation of docs/FORMATS.md, never from
+the library. The exit status is 1 if rows.txt differs from them. With --print, prints what
+rows.txt should contain.
 """
 import re
 import sys
@@ -18,15 +19,18 @@ import oracle  # noqa: E402
 import rows  # noqa: E402
 
 HEAD = """\
-# Inputs and the answer of each call, for the tests of all bindings; written by bindings/rows.py --print.
+# Inputs and the answer of each call, for the tests of all bindings; written by
+# bindings/rows.py --print.
 #
 #     NAME INPUT CANONICAL TEXT PRINT CHECK
 #
-# Input and output are in hexadecimal; `-` is an empty input. A refusal is NUMBER/UNIT/PLACE, and its unit is none, object
-# or octet. The answer of a check is `canonical`, a broken rule and its object (`C5/0`), or a refusal.
+# Input and output are in hexadecimal; `-` is an empty input. A refusal is NUMBER/UNIT/PLACE, and
+# its unit is none, object or octet. The answer of a check is `canonical`, a broken rule and its
+# object (`C5/0`), or a refusal.
 """
 
-# Rows of crates/rows/stdin: scalars, containers, texts, and each refusal that a short input can have.
+# Rows of crates/rows/stdin: scalars, containers, texts, and each refusal that a
+# short input can have.
 NAMES = """
 whole-5 whole-5-in-eight-octets whole-minus-7 whole-2-to-the-63 flag-true real4 real8 moment data-of-four text-a
 text-a-in-two-octets surrogate-d800 string-empty string-line-ends string-e-acute string-smile
@@ -84,7 +88,10 @@ def text():
     """Returns what rows.txt should contain."""
     lines = []
     for name, octets in inputs():
-        answers = [answer(of_value(write), octets) for write in (oracle.canonical, oracle.openstep, oracle.printed)]
+        answers = [
+            answer(of_value(write), octets)
+            for write in (oracle.canonical, oracle.openstep, oracle.printed)
+        ]
         lines.append(" ".join([name, octets.hex() or "-", *answers, verdict(octets)]) + "\n")
     return HEAD + "".join(lines)
 

@@ -1,15 +1,19 @@
 #!/usr/bin/env python3
-"""scripts/claims.py [--counts]: writes what must be believed: each promise of docs/PROOFS.md, with its contract, and
-below it every definition that it cites, down to the library's, each once, before what uses it.
+"""scripts/claims.py [--counts]: writes what must be believed: each promise of docs/PROOFS.md,
+with its contract, and below it every definition that it cites, down to the library's, each once,
+before what uses it.
 
-It writes out/claims.txt and out/claims.html. A row of a table in PROOFS.md is a promise: a sentence | its contract |
-N/M. The contract is names in backticks: `FUNCTION: CLAUSE, CLAUSE` (all its clauses, if it names none), where FUNCTION
-is `fits`, `Whole::new`, `plist_forms::laws::headline` or `laws::{one_value, limits}`, as long as tells it from others;
-or `Fault as Display`, the ghost members of an implementation. After a name of functions that no other crate can call
-comes `(private)`. N/M are the definitions and lines that it rests on; --counts writes them there. Sections without a table end the page: `Premises` and `Only tested` have to be among them.
+It writes out/claims.txt and out/claims.html. A row of a table in PROOFS.md is a promise: a sentence
+| its contract | N/M. The contract is names in backticks: `FUNCTION: CLAUSE, CLAUSE` (all its
+clauses, if it names none), where FUNCTION is `fits`, `Whole::new`, `plist_forms::laws::headline` or
+`laws::{one_value, limits}`, as long as tells it from others; or `Fault as Display`, the ghost
+members of an implementation. After a name of functions that no other crate can call comes
+`(private)`. N/M are the definitions and lines that it rests on; --counts writes them there.
+Sections without a table end the page: `Premises` and `Only tested` have to be among them.
 
-Fails if a name stands for nothing, a function or clause is missing, a private function is not marked so, the premises
-leave out a crate of the library that is cited, or a number in PROOFS.md is not the script's.
+Fails if a name stands for nothing, a function or clause is missing, a private function is not
+marked so, the premises leave out a crate of the library that is cited, or a number in PROOFS.md
+is not the script's.
 """
 from __future__ import annotations
 
@@ -27,7 +31,9 @@ SPAN = re.compile(r"`([^`\n]+)`( \(private\))?")
 NAMED = re.compile(r"((?:\w+::)*)(\{[\w, ]+\}|\w+)(?:: (\w+(?:, \w+)*)| as (\w+))?")
 # (fields of the library's types, and of its views of references; then of clap's)
 FIELDS = set("now old new entry exit items keys entries ghost_name".split())
-FIELDS |= set("top has_version subcommand_required required parser range start_inclusive end_inclusive".split())
+FIELDS |= set(
+    "top has_version subcommand_required required parser range start_inclusive end_inclusive".split()
+)
 TOTAL = re.compile(r"([\d,]+) definitions, ([\d,]+) lines; ([\d,]+) of them, ([\d,]+) lines")
 
 
@@ -60,7 +66,8 @@ def promises(text: str) -> list[Promise]:
 
 
 def contracts(tree: Tree, named: str, is_private: bool) -> list[Definition]:
-    """Returns the contracts that a name in PROOFS.md stands for. Functions are private exactly if it says so."""
+    """Returns the contracts that a name in PROOFS.md stands for. Functions are private
+    exactly if it says so."""
     match = NAMED.fullmatch(named)
     if match is None:
         raise Fault(f"`{named}` does not name a contract")
@@ -104,9 +111,9 @@ def of_function(tree: Tree, item: rust.Item, wanted: list[str]) -> Definition:
     for word, clause, start, end in reversed(clauses):
         if word == "ensures" and wanted and clause not in wanted:
             first = text.rfind("\n", 0, text.rfind(word, 0, start))
-            while re.match(r"\n *(//[^\n]*)?$", text[text.rfind("\n", 0, first):first]):
+            while re.match(r"\n *(//[^\n]*)?$", text[text.rfind("\n", 0, first) : first]):
                 first = text.rfind("\n", 0, first)
-            text = text[:first] + text[end + 1:].lstrip(";")
+            text = text[:first] + text[end + 1 :].lstrip(";")
     made = Definition(": ".join([name, *wanted]), item.file.path, item.first + 1, text, [name])
     tree.read_item(made, item)
     return made
@@ -152,7 +159,9 @@ def check_fields(tree: Tree, definition: Definition) -> None:
     known = FIELDS.union(*(made.fields | made.constructors for made in [definition, *cited]))
     for _, name in definition.accesses:
         if name not in known:
-            raise Fault(f"{definition.file.name}:{definition.line}: {definition.names[0]}: no type has a field {name}")
+            raise Fault(
+                f"{definition.file.name}:{definition.line}: {definition.names[0]}: no type has a field {name}"
+            )
 
 
 def explain(tree: Tree, found: list[Promise]) -> None:
@@ -183,7 +192,9 @@ def counted(tree: Tree, found: list[Promise], text: str) -> str:
     for promise in found:
         if promise.names:
             sentence, names, _ = lines[promise.line - 1].split(" |")
-            lines[promise.line - 1] = f"{sentence} |{names} | {'/'.join(map(str, size(tree, promise.rests_on)))}\n"
+            lines[
+                promise.line - 1
+            ] = f"{sentence} |{names} | {'/'.join(map(str, size(tree, promise.rests_on)))}\n"
     every = [key for promise in found for key in promise.rests_on]
     shared = [key for key in dict.fromkeys(every) if every.count(key) > 1]
     numbers = [*size(tree, list(dict.fromkeys(every))), *size(tree, shared)]
@@ -206,10 +217,17 @@ def main(arguments: list[str], top: Path = Path(__file__).resolve().parent.paren
     except Fault as fault:
         print(f"claims: {fault}")
         return 1
-    stale = [f"PROOFS.md:{number}: {line.rpartition(' | ')[2] or line}" for number, (line, other)
-             in enumerate(zip(new.splitlines(), text.splitlines()), 1) if line != other]
+    stale = [
+        f"PROOFS.md:{number}: {line.rpartition(' | ')[2] or line}"
+        for number, (line, other) in enumerate(zip(new.splitlines(), text.splitlines()), 1)
+        if line != other
+    ]
     remedy = " (scripts/claims.py --counts writes them)" if stale else ""
-    print("\n".join([*stale, f"claims: {len(found)} promises, {len(stale)} with other numbers{remedy}"]))
+    print(
+        "\n".join(
+            [*stale, f"claims: {len(found)} promises, {len(stale)} with other numbers{remedy}"]
+        )
+    )
     return 1 if stale else 0
 
 

@@ -27,13 +27,21 @@ class Page:
             for key in promise.rests_on:
                 self.numbers.setdefault(key, len(self.numbers) + 1)
         self.intro, *rest = re.split(r"(?m)^## ", text)
-        self.ends = {part.partition("\n")[0]: part.partition("\n")[2].strip() for part in rest if " | " not in part}
+        self.ends = {
+            part.partition("\n")[0]: part.partition("\n")[2].strip()
+            for part in rest
+            if " | " not in part
+        }
         missing = [name for name in NEEDED if name not in self.ends]
         if missing:
             raise Fault(f"PROOFS.md has no section {missing[0]}")
-        for crate in (module.split(".")[1] for module in self.library() if module.startswith("Rattle.")):
+        for crate in (
+            module.split(".")[1] for module in self.library() if module.startswith("Rattle.")
+        ):
             if crate != "std" and f"`{crate}`" not in self.ends["Premises"]:
-                raise Fault(f"the premises in PROOFS.md do not name `{crate}`, which contracts cite")
+                raise Fault(
+                    f"the premises in PROOFS.md do not name `{crate}`, which contracts cite"
+                )
 
     def news(self) -> list[list[str]]:
         """Returns for each promise the definitions that are printed below it."""
@@ -48,7 +56,10 @@ class Page:
         """Returns the names of the library that are cited, by module."""
         names: dict[str, set[str]] = {}
         printed = [self.tree.definitions[key] for key in self.numbers]
-        for definition in [*printed, *(made for promise in self.promises for made in promise.contracts)]:
+        for definition in [
+            *printed,
+            *(made for promise in self.promises for made in promise.contracts),
+        ]:
             for use in definition.uses:
                 if use.target.kind == "library" and use.target.key != "Rust":
                     names.setdefault(use.target.key, set()).add(use.target.name)
@@ -122,7 +133,11 @@ def prose(text: str) -> str:
         if code.startswith("# "):
             found.append(f"<h1>{code[2:]}</h1>")
         elif code.startswith("- "):
-            found.append("<ul>" + "".join(f"<li>{item}</li>" for item in re.split(r"(?m)^- ", code)[1:]) + "</ul>")
+            found.append(
+                "<ul>"
+                + "".join(f"<li>{item}</li>" for item in re.split(r"(?m)^- ", code)[1:])
+                + "</ul>"
+            )
         else:
             found.append(f"<p>{code}</p>")
     return "\n".join(found)
@@ -140,8 +155,8 @@ class Linked:
         for use in sorted([*definition.uses, *self.reads(definition)]):
             number = self.page.numbers.get(use.target.key)
             if number is not None and use.start >= at and use.target.key != definition.key:
-                name = html.escape(text[use.start:use.end])
-                parts += [html.escape(text[at:use.start]), f'<a href="#d{number}">{name}</a>']
+                name = html.escape(text[use.start : use.end])
+                parts += [html.escape(text[at : use.start]), f'<a href="#d{number}">{name}</a>']
                 at = use.end
         head = html.escape("".join(header + "\n" for header in definition.headers))
         return head + "".join(parts) + html.escape(text[at:])
@@ -152,7 +167,8 @@ class Linked:
         return f'{at}\n<pre class="{kind}">{self.code(definition)}</pre>'
 
     def reads(self, definition: Definition) -> list[Use]:
-        """Returns the fields in a text, where it cites one type alone that has a field of that name."""
+        """Returns the fields in a text, where it cites one type alone that has a
+        field of that name."""
         found = []
         tree = self.page.tree
         for start, name in definition.accesses:
@@ -167,7 +183,10 @@ def linked(page: Page) -> str:
     """Returns the page as HTML."""
     links = Linked(page)
     head = '<!DOCTYPE html>\n<html lang="en"><meta charset="utf-8"><title>What must be believed</title>'
-    rows = (f'<li><a href="#p{at}">{line(made.sentence)}</a></li>' for at, made in enumerate(page.promises, 1))
+    rows = (
+        f'<li><a href="#p{at}">{line(made.sentence)}</a></li>'
+        for at, made in enumerate(page.promises, 1)
+    )
     parts = [head, f"<style>{STYLE}</style>", prose(page.intro), f"<ol>{''.join(rows)}</ol>"]
     for section, promises in sections(page):
         parts.append(f"<h2>{html.escape(section)}</h2>")
@@ -178,10 +197,17 @@ def linked(page: Page) -> str:
             parts.append(f"<p>{said}{colon}{re.sub('[0-9]+', number_link, places)}</p>")
             for key in new:
                 number = page.numbers[key]
-                parts.append(links.block(page.tree.definitions[key], f' id="d{number}"', "definition", f"[{number}] "))
+                parts.append(
+                    links.block(
+                        page.tree.definitions[key], f' id="d{number}"', "definition", f"[{number}] "
+                    )
+                )
     parts += [f"<h2>{name}</h2>\n{prose(text)}" for name, text in page.ends.items()]
     parts.append("<h2>Names of the library</h2>")
-    parts += [f"<p><b>{module}</b>: {html.escape(', '.join(names))}</p>" for module, names in page.library().items()]
+    parts += [
+        f"<p><b>{module}</b>: {html.escape(', '.join(names))}</p>"
+        for module, names in page.library().items()
+    ]
     return "\n".join(parts) + "</html>\n"
 
 

@@ -1,6 +1,8 @@
-"""The items of src/ that contracts speak of: types, traits, constants, and functions with their clauses.
+"""The items of src/ that contracts speak of: types, traits, constants, and
+functions with their clauses.
 
-scripts/claims.py uses it. It reads files in the layout of `rt fmt`: an item begins at the left, and ends at the left.
+scripts/claims.py uses it. It reads files in the layout of `rt fmt`: an item begins at the left,
+and ends at the left.
 """
 from __future__ import annotations
 
@@ -15,7 +17,10 @@ KINDS = r'(?P<kind>struct|enum|trait|const|static|type|impl|fn|extern "C" fn)'
 ITEM = re.compile(rf"{VISIBLE}(?:const |unsafe )?{KINDS}\b[ <'&]*(?P<name>\w+)")
 METHOD = re.compile(rf'    {VISIBLE}(?:const )?(?:unsafe )?(?:extern "C" )?fn (?P<name>\w+)')
 FUNCTION = re.compile(rf'{VISIBLE}(?:const )?(?:unsafe )?(?:extern "C" )?fn (?P<name>\w+)')
-IMPL = re.compile(r"impl(?P<generics><.*?>)? (?:(?P<trait>[\w:]+)(?:<.*>)? for )?&?(?P<type>\w+)(?P<arguments><.*>)?", re.S)
+IMPL = re.compile(
+    r"impl(?P<generics><.*?>)? (?:(?P<trait>[\w:]+)(?:<.*>)? for )?&?(?P<type>\w+)(?P<arguments><.*>)?",
+    re.S,
+)
 GHOST = re.compile(r"( *)ghost use ([\w.]+?)(?:\.\{([^}]*)\}| as (\w+))?;")
 CLAUSE = re.compile(r"(?m)^ *(requires|ensures|ghost)\*?(?: (\w+))?(?: = |: | )\{")
 
@@ -35,14 +40,15 @@ class Item:
     owner: "Item | None" = None  # (of a method: its implementation or trait)
 
     def text(self) -> str:
-        return "\n".join(self.file.lines[self.first:self.last + 1])
+        return "\n".join(self.file.lines[self.first : self.last + 1])
 
     def commented(self) -> tuple[int, str]:
-        """Returns the item with the comments and attributes above it, and its first line, from 1."""
+        """Returns the item with the comments and attributes above it, and its
+        first line, from 1."""
         first = self.first
         while first > 0 and re.match(r" *(//(?!!)|#\[)", self.file.lines[first - 1]):
             first -= 1
-        return first + 1, "\n".join(self.file.lines[first:self.last + 1])
+        return first + 1, "\n".join(self.file.lines[first : self.last + 1])
 
 
 @dataclass
@@ -56,9 +62,10 @@ class RustFile:
     items: list[Item] = field(default_factory=list)
 
     def ghosts(self, first: int, last: int, indent: int) -> list[tuple[str, list[str], str]]:
-        """Returns the imports between two lines: a path, names of it (or none), and a name for the whole."""
+        """Returns the imports between two lines: a path, names of it (or none), and a
+        name for the whole."""
         found = []
-        for match in GHOST.finditer("\n".join(self.lines[first:last + 1])):
+        for match in GHOST.finditer("\n".join(self.lines[first : last + 1])):
             if len(match[1]) == indent:
                 names = [name.strip() for name in (match[3] or "").split(",") if name.strip()]
                 found.append((match[2], names, match[4] or ""))
@@ -67,7 +74,11 @@ class RustFile:
 
 def read_file(crate: str, path: Path, src: Path) -> RustFile:
     """Reads a file of src/."""
-    module = [part for part in path.relative_to(src).with_suffix("").parts if part not in ("lib", "main", "mod")]
+    module = [
+        part
+        for part in path.relative_to(src).with_suffix("").parts
+        if part not in ("lib", "main", "mod")
+    ]
     file = RustFile(crate, module, path, path.read_text(encoding="utf-8").splitlines())
     at = 0
     while at < len(file.lines):
@@ -87,8 +98,15 @@ def item_at(file: RustFile, at: int, match: re.Match[str]) -> Item:
     last, lines = at, file.lines
     if not lines[at].endswith((";", "}")):
         ends = re.compile(r"\}" if kind in ("fn", "impl", "trait") else r"[}\])]+;?$")
-        last = next((end for end in range(at + 1, len(lines)) if ends.match(lines[end]) or lines[end] == "{}"), at)
-    head = "\n".join(lines[at:last + 1]).partition(" {\n")[0].partition("\n{")[0]
+        last = next(
+            (
+                end
+                for end in range(at + 1, len(lines))
+                if ends.match(lines[end]) or lines[end] == "{}"
+            ),
+            at,
+        )
+    head = "\n".join(lines[at : last + 1]).partition(" {\n")[0].partition("\n{")[0]
     item = Item(kind, match["name"], file, at, last, head, match["visible"] == "pub ")
     if kind == "impl":
         found = IMPL.match(head)
@@ -103,15 +121,34 @@ def methods(owner: Item) -> list[Item]:
     found, lines = [], owner.file.lines
     for at in range(owner.first + 1, owner.last):
         if match := METHOD.match(lines[at]):
-            last = next(end for end in range(at, owner.last + 1) if lines[end].startswith("    }")
-                        or owner.kind == "trait" and lines[end].endswith(";"))
-            found.append(Item("fn", match["name"], owner.file, at, last, "", match["visible"] == "pub " or bool(owner.trait)
-                              or owner.kind == "trait" and owner.is_public, owner=owner))
+            last = next(
+                end
+                for end in range(at, owner.last + 1)
+                if lines[end].startswith("    }")
+                or owner.kind == "trait"
+                and lines[end].endswith(";")
+            )
+            found.append(
+                Item(
+                    "fn",
+                    match["name"],
+                    owner.file,
+                    at,
+                    last,
+                    "",
+                    match["visible"] == "pub "
+                    or bool(owner.trait)
+                    or owner.kind == "trait"
+                    and owner.is_public,
+                    owner=owner,
+                )
+            )
     return found
 
 
 def parts(item: Item) -> tuple[set[str], set[str]]:
-    """Returns the fields of a type, or the ghost members of a trait, and the variants of an enum."""
+    """Returns the fields of a type, or the ghost members of a trait, and the
+    variants of an enum."""
     bare = re.sub(r"(?m)^ *//.*", "", item.text())
     members = set(re.findall(r"(?m)^    (?:ghost|type) (\w+)", bare))
     variants = set(re.findall(r"(?m)^    ([A-Z]\w*)", bare)) if item.kind == "enum" else set()
@@ -123,12 +160,16 @@ def parts(item: Item) -> tuple[set[str], set[str]]:
 def contract(item: Item) -> str:
     """Returns the signature of a function with its clauses, as they stand."""
     begin = item.file.lines[item.first]
-    indent = begin[:len(begin) - len(begin.lstrip())]
+    indent = begin[: len(begin) - len(begin.lstrip())]
     taken = []
-    for line in item.file.lines[item.first:item.last + 1]:
+    for line in item.file.lines[item.first : item.last + 1]:
         if line.strip() in ("{", "{}") and line.startswith(indent + "{"):
             break
-        is_end = line.endswith((" {", " {}")) and not line.startswith(indent + "    ") or line.endswith(";")
+        is_end = (
+            line.endswith((" {", " {}"))
+            and not line.startswith(indent + "    ")
+            or line.endswith(";")
+        )
         taken.append(re.sub(r" \{\}?$", "", line) if is_end else line)
         if is_end:
             break
@@ -146,7 +187,8 @@ def matching(text: str, at: int) -> int:
 
 
 def clauses(text: str) -> list[tuple[str, str, int, int]]:
-    """Returns the clauses in a text: their word, their name, and where their term begins and ends."""
+    """Returns the clauses in a text: their word, their name, and where their
+    term begins and ends."""
     found = []
     for match in CLAUSE.finditer(text):
         found.append((match[1], match[2] or "", match.end(), matching(text, match.end() - 1)))
@@ -154,8 +196,12 @@ def clauses(text: str) -> list[tuple[str, str, int, int]]:
 
 
 def generics(head: str) -> dict[str, list[str]]:
-    """Returns the type parameters of a head, `impl<..>` or `fn name<..>`, with the traits that bound each."""
-    match = re.match(r" *(?:pub(?:\([^)]*\))? )?(?:impl|(?:\w+ )*(?:fn|trait|struct|enum) \w+|\w+(?: \"C\" fn \w+)?)<", head)
+    """Returns the type parameters of a head, `impl<..>` or `fn name<..>`, with the
+    traits that bound each."""
+    match = re.match(
+        r" *(?:pub(?:\([^)]*\))? )?(?:impl|(?:\w+ )*(?:fn|trait|struct|enum) \w+|\w+(?: \"C\" fn \w+)?)<",
+        head,
+    )
     if match is None:
         return {}
     depth, at = 1, match.end()
@@ -163,7 +209,7 @@ def generics(head: str) -> dict[str, list[str]]:
         depth += (head[at] == "<") - (head[at] == ">" and head[at - 1] != "-")
         at += 1
     found = {}
-    for part in re.split(r",\s*(?![^<>]*>)", head[match.end():at - 1]):
+    for part in re.split(r",\s*(?![^<>]*>)", head[match.end() : at - 1]):
         name, _, bounds = part.strip().partition(":")
         if re.match(r"(const )?[A-Z]\w*$", name):
             found[name.removeprefix("const ")] = re.findall(r"\b[A-Z]\w*", bounds)
@@ -174,4 +220,7 @@ def parameters(text: str) -> set[str]:
     """Returns the names of a function's parameters, or of those of all functions of a trait."""
     for _, _, start, end in reversed(clauses(text)):
         text = text[:start] + text[end:]
-    return set(re.findall(r"\b([a-z_]\w*)\s*:(?!:)", re.sub(r"//.*", "", text))) | {"self", "result"}
+    return set(re.findall(r"\b([a-z_]\w*)\s*:(?!:)", re.sub(r"//.*", "", text))) | {
+        "self",
+        "result",
+    }

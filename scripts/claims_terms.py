@@ -1,6 +1,8 @@
-"""The antt terms of specs/ and of contracts: their declarations, and what each name in one stands for.
+"""The antt terms of specs/ and of contracts: their declarations, and what each
+name in one stands for.
 
-scripts/claims.py uses it. A name that is neither bound nor known is a `Fault`, which ends the script.
+scripts/claims.py uses it. A name that is neither bound nor known is a `Fault`,
+which ends the script.
 """
 from __future__ import annotations
 
@@ -13,10 +15,16 @@ from typing import Any, Callable, Iterator, NamedTuple, Optional
 TOKEN = re.compile(r'"(?:[^"\\]|\\.)*"|(?:--|//)[^\n]*|⟦[^⟧]*⟧|\[\]|[()\[\]{},;]|[^\s()\[\]{},;"]+')
 NAME = re.compile(r"(?!\d)[\w'][\w'-]*")
 NUMBER = re.compile(r"0[xb][\da-fA-F_]+|[\d_]+")
-KEYWORDS = set("let in do record Type where pub λ = → ← × ¬ : ⊥ Unit tt absurd | _ if then else".split())
+KEYWORDS = set(
+    "let in do record Type where pub λ = → ← × ¬ : ⊥ Unit tt absurd | _ if then else".split()
+)
 OF_KEYWORDS = {"do": "◌>>=◌", "if": "if◌then◌else◌"}
-CONSTRUCTORS = set("true false zero suc [] ◌∷◌ Some None Ok Err pos negsuc refl Less Equal Greater".split())
-HEAD = re.compile(r" *(?:(?:abbrev )?mutual$|(?:abbrev |unfoldable )?(?:pub )?(?:(?:record|data) |\S+ : ))")
+CONSTRUCTORS = set(
+    "true false zero suc [] ◌∷◌ Some None Ok Err pos negsuc refl Less Equal Greater".split()
+)
+HEAD = re.compile(
+    r" *(?:(?:abbrev )?mutual$|(?:abbrev |unfoldable )?(?:pub )?(?:(?:record|data) |\S+ : ))"
+)
 CLOSES = {"(": ")", "[": "]", "{": "}"}
 
 
@@ -31,9 +39,11 @@ class Token(NamedTuple):
 
 
 class Target(NamedTuple):
-    """What a name stands for: a definition of this repository, by its key, or a name of the library."""
+    """What a name stands for: a definition of this repository, by its key, or a
+    name of the library."""
 
-    # "definition", "constructor", "module", "library", "member" (of a trait of this repository) or "bound" (by another)
+    # "definition", "constructor", "module", "library", "member" (of a trait of this repository) or
+    # "bound" (by another)
     kind: str
     key: str
     name: str = ""
@@ -66,7 +76,11 @@ class Definition:
 
     def lines(self) -> int:
         """Returns how many lines it has that are no comments."""
-        return sum(1 for line in self.text.splitlines() if line.strip() and not line.strip().startswith(("--", "//")))
+        return sum(
+            1
+            for line in self.text.splitlines()
+            if line.strip() and not line.strip().startswith(("--", "//"))
+        )
 
 
 Resolve = Callable[[str], Optional[Target]]
@@ -77,7 +91,11 @@ def tokens_of(text: str) -> list[Token]:
     found = []
     for match in TOKEN.finditer(text):
         if not match[0].startswith(("--", "//")):
-            found.append(Token(match[0], match.start(), match.start() - text.rfind("\n", 0, match.start()) - 1))
+            found.append(
+                Token(
+                    match[0], match.start(), match.start() - text.rfind("\n", 0, match.start()) - 1
+                )
+            )
     return found
 
 
@@ -99,10 +117,13 @@ class Terms:
     def __init__(self, into: Definition, resolve: Resolve, where: str) -> None:
         self.into, self.resolve, self.where = into, resolve, where
         self.tokens: list[Token] = []
-        self.outer = self.read([token for header in into.headers for token in tokens_of(header)[2:-1]], set())
+        self.outer = self.read(
+            [token for header in into.headers for token in tokens_of(header)[2:-1]], set()
+        )
 
     def read(self, tokens: list[Token], scope: set[str]) -> set[str]:
-        """Reads the tokens from left to right; returns the scope with what they bind outside of all brackets."""
+        """Reads the tokens from left to right; returns the scope with what they bind
+        outside of all brackets."""
         self.tokens, scope, at = tokens, set(scope), 0
         while at < len(tokens):
             at = self.step(at, scope)
@@ -128,7 +149,8 @@ class Terms:
         return at + 1
 
     def group(self, at: int, scope: set[str]) -> int:
-        """Reads what brackets hold. Names that they bind, as `(x y : A)`, are in scope after them."""
+        """Reads what brackets hold. Names that they bind, as `(x y : A)`, are in
+        scope after them."""
         closer, is_record = CLOSES[self.text(at)], self.text(at) == "{" and self.is_record(at)
         bound, at = self.binder(at + 1)
         inner = set(scope)
@@ -178,18 +200,32 @@ class Terms:
         for at, token in enumerate(tokens):
             depth += (token.text in CLOSES) - (token.text in CLOSES.values())
             if token.text == "=" and depth == 0:
-                self.read(tokens[at + 1:], scope)
+                self.read(tokens[at + 1 :], scope)
                 return
             # (`{E = e}` gives an implicit argument by its name)
-            if depth > 0 and NAME.fullmatch(token.text) and tokens[at + 1:at + 2] and tokens[at + 1].text == "=":
+            if (
+                depth > 0
+                and NAME.fullmatch(token.text)
+                and tokens[at + 1 : at + 2]
+                and tokens[at + 1].text == "="
+            ):
                 continue
-            self.matched(token, scope, at == 0 or tokens[at - 1].text == "(" and is_applied(tokens[at + 1].text))
+            self.matched(
+                token,
+                scope,
+                at == 0 or tokens[at - 1].text == "(" and is_applied(tokens[at + 1].text),
+            )
         raise Fault(f"{self.where}: neither a signature nor a clause")
 
     def matched(self, token: Token, scope: set[str], is_head: bool) -> None:
-        """Reads a name in a pattern: a constructor, else a variable. That of a clause or of parts is no variable."""
+        """Reads a name in a pattern: a constructor, else a variable. That of a clause or of
+        parts is no variable."""
         target = self.known(token.text.split(".")[0])
-        is_variable = target is None or target.kind in ("definition", "library") and target.name not in CONSTRUCTORS
+        is_variable = (
+            target is None
+            or target.kind in ("definition", "library")
+            and target.name not in CONSTRUCTORS
+        )
         if not is_variable or target and target.key == self.into.key:
             self.name(token, set())
         elif NAME.fullmatch(token.text) and token.text not in KEYWORDS:
@@ -204,7 +240,12 @@ class Terms:
         """Notes what a name stands for, and which fields are read of it."""
         head, *fields = token.text.split(".")
         end = token.start + len(head)
-        if token.text == "." or token.text[0] in '",;)]}' or NUMBER.fullmatch(head) or token.text in KEYWORDS:
+        if (
+            token.text == "."
+            or token.text[0] in '",;)]}'
+            or NUMBER.fullmatch(head)
+            or token.text in KEYWORDS
+        ):
             return
         if head and head not in scope:
             target = self.known(token.text if token.text[0] == "⟦" else head)
@@ -214,7 +255,11 @@ class Terms:
                 member = self.resolve(f"{head}.{fields[0]}") if fields else target
                 if member is None:
                     raise Fault(f"{self.where}: nothing says what {head}.{fields[0]} is")
-                target, end, fields = member, end + 1 + len(fields[0]) if fields else end, fields[1:]
+                target, end, fields = (
+                    member,
+                    end + 1 + len(fields[0]) if fields else end,
+                    fields[1:],
+                )
             self.into.uses.append(Use(token.start, end, target))
             if target.kind in ("member", "bound"):
                 return
@@ -224,10 +269,11 @@ class Terms:
 
 
 def entries(definition: Definition) -> Iterator[tuple[list[Token], int]]:
-    """Returns the tokens of each signature, clause or type of a declaration, and the column that they begin at."""
+    """Returns the tokens of each signature, clause or type of a declaration, and the column
+    that they begin at."""
     tokens, base = tokens_of(definition.text), 2 * len(definition.headers)
     if "mutual" in (tokens[0].text, tokens[1].text):
-        tokens, base = tokens[1 if tokens[0].text == "mutual" else 2:], base + 2
+        tokens, base = tokens[1 if tokens[0].text == "mutual" else 2 :], base + 2
     for entry in split(tokens, base):
         yield entry, base
 
@@ -257,11 +303,12 @@ def signature(words: list[str]) -> int | None:
     at = 0
     while words[at] in ("abbrev", "unfoldable", "pub"):
         at += 1
-    return at + 2 if words[at + 1:at + 2] == [":"] else None
+    return at + 2 if words[at + 1 : at + 2] == [":"] else None
 
 
 def type_at(words: list[str]) -> int | None:
-    """Returns where a declaration of a type has the word `record` or `data`, or None for another."""
+    """Returns where a declaration of a type has the word `record` or `data`, or
+    None for another."""
     at = 1 if words[0] == "pub" else 0
     return at if words[at] in ("record", "data") else None
 
@@ -270,11 +317,11 @@ def read_type(terms: Terms, entry: list[Token], base: int) -> None:
     """Reads a record, whose fields are in scope after them, or a data type."""
     words = [token.text for token in entry]
     start, end = type_at(words) or 0, words.index("where")
-    scope = terms.read(entry[start + 2:end], terms.outer)
+    scope = terms.read(entry[start + 2 : end], terms.outer)
     is_record = words[start] == "record"
-    for part in split(entry[end + 1:], base + 2):
+    for part in split(entry[end + 1 :], base + 2):
         at = 1 if part[0].text == "pub" else 0
-        terms.read(part[at + 2:], scope)
+        terms.read(part[at + 2 :], scope)
         if is_record:
             scope.add(part[at].text)
 
@@ -286,7 +333,7 @@ def declarations(file: Path, module: str) -> list[Definition]:
     headers: list[str] = []
     for number, line in enumerate(file.read_text(encoding="utf-8").splitlines(), 1):
         indent = len(line) - len(line.lstrip())
-        headers = headers[:indent // 2] if line.strip() else headers
+        headers = headers[: indent // 2] if line.strip() else headers
         at_base = indent == 2 * len(headers)
         if not line.strip() or re.match(r"(pub )?(use|mod) |infix", line):
             comment = []
@@ -314,8 +361,10 @@ def name_parts(definition: Definition) -> None:
         words = [token.text for token in entry]
         if (start := type_at(words)) is not None:
             definition.names.append(words[start + 1])
-            for part in split(entry[words.index("where") + 1:], base + 2):
+            for part in split(entry[words.index("where") + 1 :], base + 2):
                 name = part[1].text if part[0].text == "pub" else part[0].text
-                (definition.fields if words[start] == "record" else definition.constructors).add(name)
+                (definition.fields if words[start] == "record" else definition.constructors).add(
+                    name
+                )
         elif (at := signature(words)) is not None:
             definition.names.append(words[at - 2])

@@ -1,3 +1,4 @@
+# shellcheck shell=bash
 # scripts/commit.sh, sourced by the scripts that make packages: takes the time and the maintainer of packages,
 # SOURCE_DATE_EPOCH and MAINTAINER, from the commit that is checked out, so that packages are reproducible. If the
 # environment has both, git is not called.

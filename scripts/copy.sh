@@ -1,3 +1,4 @@
+# shellcheck shell=bash
 # scripts/copy.sh, sourced by scripts that try other function bodies: makes a copy of the tree that they may change.
 #
 # copied                makes the copy and sets `copy` to its path; it is removed when the script ends

@@ -13,7 +13,8 @@ export DESTDIR=dist/$name PREFIX='' SHARE=/share DOC=/share/doc/plistconv ZSH=zs
 scripts/install.sh install program
 scripts/install.sh install library
 sed "s/VERSION/$VERSION/" scripts/INSTALL.in > "dist/$name/INSTALL"
-(cd "dist/$name" && find . -type f ! -name SHA256SUMS -printf '%P\0' | LC_ALL=C sort -z | xargs -0 sha256sum > SHA256SUMS)
+(cd "dist/$name" && find . -type f -printf '%P\0' | LC_ALL=C sort -z | xargs -0 sha256sum) > dist/SHA256SUMS
+mv dist/SHA256SUMS "dist/$name/"
 LC_ALL=C tar --sort=name --owner=0 --group=0 --numeric-owner --mode=u+rwX,go+rX,go-w --mtime="@$SOURCE_DATE_EPOCH" \
     -C dist -cf - "$name" | gzip -n9 > "dist/$name.tar.gz"
 rm -rf "dist/$name" # the toolchain refuses a tree with links

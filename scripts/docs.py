@@ -2,22 +2,28 @@
 """scripts/docs.py: checks the pages against the repository: links, names, numbers.
 
 A span in backticks is checked if its form tells what it is:
-- a path (`fuzz/rows.py`, `plist_value/specs/Limits.antt`, `crates/rows`): the file or folder exists. The path of a
-  crate may begin with its name. A link is resolved from the page's folder, and its heading has to be in that page;
+- a path (`fuzz/rows.py`, `plist_value/specs/Limits.antt`, `crates/rows`): the file or folder
+  exists. The path of a crate may begin with its name. A link is resolved from the page's folder,
+  and its heading has to be in that page;
 - the name of a file of definitions or lemmas (`Begins.antt`): some crate has it;
 - `make TARGET`: the target exists;
 - a name `plist_*` or `ostep_*`: a crate, or a function or file of that name;
-- a name with `::` or with clauses after a colon (`laws::{headline, one_value}`, `fits: limits`): the crate that it
-  begins with, or else any crate, has such functions or types, and such clauses;
-- in docs/PROOFS.md, ARCHITECTURE.md and DECISIONS.md a name with `_` (`put_scalar`): some crate has it.
+- a name with `::` or with clauses after a colon (`laws::{headline, one_value}`, `fits: limits`):
+  the crate that it begins with, or else any crate, has such functions or types, and such clauses;
+- in docs/PROOFS.md, ARCHITECTURE.md and DECISIONS.md a name with `_`
+  (`put_scalar`): some crate has it.
 Words in capitals are placeholders (`crates/NAME/src`); spans with them are skipped.
 Besides:
-- the README's graph (lines `plist_convert → plist_forms → plist_canon`) agrees with crates.txt: along its arrows each
-  crate reaches exactly what it reaches by crates.txt. The crates of tests are left out;
-- docs/ARCHITECTURE.md has a row for each crate, and its layers have each crate once, none above one that it uses;
-- docs/FORMATS.md has each refusal with its number and its name, and the limits of the code, and so does SECURITY.md;
-  `plist_explain` explains its refusals and rules, in its order, in lines of at most 79 columns;
-- CHANGELOG.md has the version of the program, which is also that of the man page, the header and the packages;
+- the README's graph (lines `plist_convert → plist_forms → plist_canon`) agrees with
+  crates.txt: along its arrows each crate reaches exactly what it reaches by crates.txt. The
+  crates of tests are left out;
+- docs/ARCHITECTURE.md has a row for each crate, and its layers have each crate once, none
+  above one that it uses;
+- docs/FORMATS.md has each refusal with its number and its name, and the limits of the code, and
+  so does SECURITY.md; `plist_explain` explains its refusals and rules, in its order, in lines
+  of at most 79 columns;
+- CHANGELOG.md has the version of the program, which is also that of the man page, the
+  header and the packages;
 - docs/RECIPES.md and the man page plistconv-tools.1 name each command in tools/;
 - CONTRIBUTING.md, Makefile and build.mk state the same cost of the first `make`;
 - docs/BENCHMARKS.md names the commit that was measured.
@@ -30,7 +36,7 @@ from pathlib import Path
 TOP = Path(__file__).resolve().parent.parent
 CRATES = TOP / "crates"
 PAGES = sorted([*TOP.glob("*.md"), *TOP.glob("docs/*.md"), *TOP.glob("bindings/**/*.md")])
-TESTS = {"plist_tests", "test_files", "rows"}  # crates that the graph leaves out
+TESTS = {"plist_tests", "program_tests", "test_files", "rows"}  # crates that the graph leaves out
 SPAN = re.compile(r"`([^`\n]+)`")
 LINK = re.compile(r"\]\(([^)#:]*)(?:#([\w-]+))?\)")
 PATH = re.compile(r"[\w.-]+(/[\w.-]*)+")
@@ -57,12 +63,15 @@ class Sources:
     def __init__(self, crates):
         files = [file for crate in crates for file in (CRATES / crate / "src").rglob("*.rt")]
         self.text = "\n".join(file.read_text(encoding="utf-8") for file in files)
-        self.words = set(re.findall(r"\w+", re.sub(r"//.*", "", self.text))) | {file.stem for file in files}
+        self.words = set(re.findall(r"\w+", re.sub(r"//.*", "", self.text))) | {
+            file.stem for file in files
+        }
         self.clauses = set(re.findall(r"ensures (\w+) \{", self.text))
 
 
 SOURCES = {crate: Sources([crate]) for crate in USES}
 ALL = Sources(USES)
+ALL.words.update(USES)
 TARGETS = {
     target
     for file in (TOP / "Makefile", *TOP.glob("*.mk"))
@@ -95,7 +104,9 @@ def wrong_name(span, is_exact):
         return None
     source = source or ALL
     missing = [name for name in names if name not in source.words]
-    missing += [clause for clause in re.findall(r"\w+", clauses or "") if clause not in source.clauses]
+    missing += [
+        clause for clause in re.findall(r"\w+", clauses or "") if clause not in source.clauses
+    ]
     return missing[0] if missing else None
 
 
@@ -107,7 +118,9 @@ def stale(span, page):
         return None if match[1] in TARGETS else f"no target {match[1]}"
     if PATH.fullmatch(span):
         first = span.split("/")[0]
-        if first != ".git" and (first in USES or first in ("specs", "proofs", "src") or (TOP / first).exists()):
+        if first != ".git" and (
+            first in USES or first in ("specs", "proofs", "src") or (TOP / first).exists()
+        ):
             return None if stands(span, page) else f"no file {span}"
         return None
     if span.endswith(".antt"):
@@ -144,7 +157,9 @@ def read(name):
 
 def blocks(text):
     """Returns the blocks of lines indented by four spaces."""
-    return [re.findall(r"(?m)^    (.*)", block) for block in re.findall(r"(?m)(?:^    .*\n)+", text)]
+    return [
+        re.findall(r"(?m)^    (.*)", block) for block in re.findall(r"(?m)(?:^    .*\n)+", text)
+    ]
 
 
 def reached(edges):
@@ -177,12 +192,15 @@ def graph_faults(text):
     differ = {crate: stated[crate] ^ drawn.get(crate, set()) for crate in crates}
     for crate in crates:
         # A difference at a crate below is reported there.
-        if own := differ[crate].difference(*(differ[low] for low in stated[crate] if low in differ)):
+        if own := differ[crate].difference(
+            *(differ[low] for low in stated[crate] if low in differ)
+        ):
             yield f"README.md: the graph is not that of crates.txt: {crate} and {', '.join(sorted(own))}"
 
 
 def layer_faults(text):
-    """Yields the crates without a row in ARCHITECTURE.md, or without a layer, or with a layer above one they use."""
+    """Yields the crates without a row in ARCHITECTURE.md, or without a layer, or with a layer
+    above one they use."""
     rows = [re.split(r"\s*\|\s*", line.strip("| ")) for line in text.splitlines() if "|" in line]
     named = {name for row in rows for name in re.findall(r"`(\w+)`", row[0])}
     yield from (f"ARCHITECTURE.md: no row of `{crate}`" for crate in USES if crate not in named)
@@ -208,19 +226,27 @@ def number_faults():
         cells = [cell.strip() for cell in line.strip("|").split("|")]
         if re.match(r"\d", cells[0]):
             ends = re.fullmatch(r"(\d+) to (\d+)", cells[0])
-            numbers = range(int(ends[1]), int(ends[2]) + 1) if ends else map(int, cells[0].split(", "))
+            numbers = (
+                range(int(ends[1]), int(ends[2]) + 1) if ends else map(int, cells[0].split(", "))
+            )
             table.update(zip(numbers, cells[1].split(", ")))
-    code = re.findall(r"(?m)^number_of (\w+) = (\d+)$", read("crates/plist_value/specs/Refusals.antt"))
+    code = re.findall(
+        r"(?m)^number_of (\w+) = (\d+)$", read("crates/plist_value/specs/Refusals.antt")
+    )
     if table != {int(number): name for name, number in code}:
         yield "FORMATS.md: its refusals are not those of plist_value/specs/Refusals.antt"
     texts = "".join(read(f"crates/plist_explain/src/{file}.rt") for file in ("refusals", "rules"))
     explained = re.findall(r"Subject::(?:Refusal\(Refusal::|Rule\()(\w+)", texts)
-    if explained != [table[number] for number in sorted(table)] + re.findall(r"(?m)^C(\d) \|", formats):
+    if explained != [table[number] for number in sorted(table)] + re.findall(
+        r"(?m)^C(\d) \|", formats
+    ):
         yield "FORMATS.md: its refusals and rules are not those of plist_explain"
     plain = re.sub(r"\\(.)", r"\1", texts)
     if long := [line for line in re.findall(r'(?m)^[^ /].*?(?=",$|$)', plain) if len(line) > 79]:
         yield f"plist_explain: a line is too long: {long[0]}"
-    constants = "".join(read(f"crates/{file}.rt") for file in ("plist_value/src/lib", "plist_forms/src/loading"))
+    constants = "".join(
+        read(f"crates/{file}.rt") for file in ("plist_value/src/lib", "plist_forms/src/loading")
+    )
     for name, number in re.findall(r"pub const (MAX_\w+): u64 = ([\d_]+);", constants):
         for page in ("docs/FORMATS.md", "SECURITY.md"):
             if number.replace("_", ",") not in read(page):
@@ -248,16 +274,29 @@ def version_faults():
 
 def cost_faults():
     """Yields the files whose cost of the first `make` is not that of CONTRIBUTING.md."""
-    costs = {file: re.findall(r"(\d+) processor minutes", read(file))[:1] for file in ("CONTRIBUTING.md", "Makefile", "build.mk")}
-    yield from (f"{file}: its cost of the first make is not that of CONTRIBUTING.md" for file in costs
-                if not costs[file] or costs[file] != costs["CONTRIBUTING.md"])
+    costs = {
+        file: re.findall(r"(\d+) processor minutes", read(file))[:1]
+        for file in ("CONTRIBUTING.md", "Makefile", "build.mk")
+    }
+    yield from (
+        f"{file}: its cost of the first make is not that of CONTRIBUTING.md"
+        for file in costs
+        if not costs[file] or costs[file] != costs["CONTRIBUTING.md"]
+    )
 
 
 def tool_faults():
     """Yields the commands in tools/ that a page does not name."""
-    pages = {"RECIPES.md": read("docs/RECIPES.md"), "plistconv-tools.1": read("man/plistconv-tools.1").replace("\\-", "-")}
+    pages = {
+        "RECIPES.md": read("docs/RECIPES.md"),
+        "plistconv-tools.1": read("man/plistconv-tools.1").replace("\\-", "-"),
+    }
     for tool in sorted(TOP.glob("tools/plistconv-*")):
-        yield from (f"{name}: no command {tool.name}" for name, page in pages.items() if tool.name not in page)
+        yield from (
+            f"{name}: no command {tool.name}"
+            for name, page in pages.items()
+            if tool.name not in page
+        )
 
 
 def main():

@@ -1,14 +1,16 @@
 #!/usr/bin/env python3
-"""limits.py PROGRAM [--large]: checks what is too long for tests. No contract says when memory is refused, so a command
-could report 60 for whatever is longer than the values of the tests.
+"""limits.py PROGRAM [--large]: checks what is too long for tests. No contract says when memory is
+refused, so a command could report 60 for whatever is longer than the values of the tests.
 
 - `lint` refuses a text that exceeds the limit of nodes, of 50 MB.
-- Each command reads, writes and compares values of 70,000 keys, of 1,100,000 strings, of 3 MiB of data or of a string,
-  and of 450 levels. It refuses such a value with a duplicate key, and a long text with an error at its end.
-- `lint` opens a path of 200 bytes, and one of 4,090, and reports one that is longer than any path of the system.
+- Each command reads, writes and compares values of 70,000 keys, of 1,100,000 strings, of 3 MiB of
+  data or of a string, and of 450 levels. It refuses such a value with a duplicate key, and a long
+  text with an error at its end.
+- `lint` opens a path of 200 bytes, and one of 4,090, and reports one that is longer than
+  any path of the system.
 
-With --large also the limit of payload (537 MB, 2 GB of memory), a file of 16,777,300 objects, and a text of 300 MB.
-What does not fit on this machine is skipped."""
+With --large also the limit of payload (537 MB, 2 GB of memory), a file of 16,777,300 objects, and a
+text of 300 MB. What does not fit on this machine is skipped."""
 import collections
 import os
 import shutil
@@ -44,11 +46,15 @@ class Runs:
             file.write(octets)
 
     def expect(self, name, words, status, printed, file=None):
-        """Runs the program, which has to print this. With `file` the path `out` has to have these bytes then."""
+        """Runs the program, which has to print this. With `file` the path `out` has to have
+        these bytes then."""
         run = subprocess.run([self.program, *words], cwd=self.folder, capture_output=True)
         if (run.returncode, run.stdout) != (status, printed):
             self.wrong += 1
-            print(f"{name}: {' '.join(words)[:80]}: status {run.returncode}, {run.stdout[:200]!r}", flush=True)
+            print(
+                f"{name}: {' '.join(words)[:80]}: status {run.returncode}, {run.stdout[:200]!r}",
+                flush=True,
+            )
         elif file is not None:
             with open(self.path("out"), "rb") as out:
                 if out.read() != file:
@@ -60,7 +66,8 @@ class Runs:
 
 
 def lists(count):
-    """Returns an array of `count` empty arrays. Each of them is a node, and so is the array itself."""
+    """Returns an array of `count` empty arrays. Each of them is a node, and so is
+    the array itself."""
     return b"(" + b"()," * count + b")"
 
 
@@ -104,66 +111,99 @@ def canonical(objects):
         end += len(made)
     width = least(end)
     table = b"".join(spelled(place, width) for place in places)
-    trailer = bytes([0] * 6 + [width, least(len(objects))]) + spelled(len(objects), 8) + bytes(8) + spelled(end, 8)
+    trailer = (
+        bytes([0] * 6 + [width, least(len(objects))])
+        + spelled(len(objects), 8)
+        + bytes(8)
+        + spelled(end, 8)
+    )
     return b"bplist00" + b"".join(objects) + table + trailer
 
 
 def keys(count):
     """Returns a dictionary of numbered keys with the same value."""
     names, width = [b"%06d" % key for key in range(count)], least(count + 2)
-    references = b"".join(spelled(key, width) for key in range(1, count + 1)) + spelled(count + 1, width) * count
-    return Value(b"{" + b"".join(b"%s=v;" % name for name in reversed(names)) + b"}",
-                 canonical([head(0xD0, count) + references, *(b"\x56" + name for name in names), b"Qv"]),
-                 b"{\n" + b"".join(b"%s = v;\n" % name for name in names) + b"}\n",
-                 b"{\n" + b"".join(b'  "%s" => "v"\n' % name for name in names) + b"}\n")
+    references = (
+        b"".join(spelled(key, width) for key in range(1, count + 1))
+        + spelled(count + 1, width) * count
+    )
+    return Value(
+        b"{" + b"".join(b"%s=v;" % name for name in reversed(names)) + b"}",
+        canonical([head(0xD0, count) + references, *(b"\x56" + name for name in names), b"Qv"]),
+        b"{\n" + b"".join(b"%s = v;\n" % name for name in names) + b"}\n",
+        b"{\n" + b"".join(b'  "%s" => "v"\n' % name for name in names) + b"}\n",
+    )
 
 
 def items(count):
     """Returns an array of different strings."""
     names, width = [b"%07d" % item for item in range(count)], least(count + 1)
     references = b"".join(spelled(item, width) for item in range(1, count + 1))
-    return Value(b"(" + b",".join(names) + b")",
-                 canonical([head(0xA0, count) + references, *(b"\x57" + name for name in names)]),
-                 b"(\n" + b"".join(b"%s,\n" % name for name in names) + b")\n",
-                 b"[\n" + b"".join(b'  "%s"\n' % name for name in names) + b"]\n")
+    return Value(
+        b"(" + b",".join(names) + b")",
+        canonical([head(0xA0, count) + references, *(b"\x57" + name for name in names)]),
+        b"(\n" + b"".join(b"%s,\n" % name for name in names) + b")\n",
+        b"[\n" + b"".join(b'  "%s"\n' % name for name in names) + b"]\n",
+    )
 
 
 def data(size):
     lines = b"".join(b"  " + b"07" * min(32, size - start) + b"\n" for start in range(0, size, 32))
-    return Value(b"<" + b"07" * size + b">", canonical([head(0x40, size) + b"\x07" * size]),
-                 b"<" + b"07" * size + b">\n", b"<\n" + lines + b">\n")
+    return Value(
+        b"<" + b"07" * size + b">",
+        canonical([head(0x40, size) + b"\x07" * size]),
+        b"<" + b"07" * size + b">\n",
+        b"<\n" + lines + b">\n",
+    )
 
 
 def letters(size):
-    return Value(b"a" * size, canonical([head(0x50, size) + b"a" * size]), b"a" * size + b"\n",
-                 b'"' + b"a" * size + b'"\n')
+    return Value(
+        b"a" * size,
+        canonical([head(0x50, size) + b"a" * size]),
+        b"a" * size + b"\n",
+        b'"' + b"a" * size + b'"\n',
+    )
 
 
 def accents(size):
     accent = "é".encode()
-    return Value(b'"' + accent * size + b'"', canonical([head(0x60, size) + b"\0\xe9" * size]),
-                 b'"' + b"\\U00e9" * size + b'"\n', b'"' + accent * size + b'"\n')
+    return Value(
+        b'"' + accent * size + b'"',
+        canonical([head(0x60, size) + b"\0\xe9" * size]),
+        b'"' + b"\\U00e9" * size + b'"\n',
+        b'"' + accent * size + b'"\n',
+    )
 
 
 def arrays(levels):
     """Returns arrays that each contain the next one, down to an empty one."""
     width, indents = least(levels), [b"  " * min(level, 32) for level in range(levels)]
-    return Value(b"(" * levels + b")" * levels,
-                 canonical([*(b"\xa1" + spelled(level, width) for level in range(1, levels)), b"\xa0"]),
-                 b"(\n" * levels + b")" + b",\n)" * (levels - 1) + b"\n",
-                 b"".join(indent + b"[\n" for indent in indents[:-1]) + indents[-1] + b"[]\n"
-                 + b"".join(indent + b"]\n" for indent in reversed(indents[:-1])))
+    return Value(
+        b"(" * levels + b")" * levels,
+        canonical([*(b"\xa1" + spelled(level, width) for level in range(1, levels)), b"\xa0"]),
+        b"(\n" * levels + b")" + b",\n)" * (levels - 1) + b"\n",
+        b"".join(indent + b"[\n" for indent in indents[:-1])
+        + indents[-1]
+        + b"[]\n"
+        + b"".join(indent + b"]\n" for indent in reversed(indents[:-1])),
+    )
 
 
 def dictionaries(levels):
     """Returns dictionaries that each have the next one for their key `k`, down to an empty one."""
     width, indents = least(levels + 1), [b"  " * min(level, 32) for level in range(levels)]
     inner = [b"\xd1" + spelled(1, width) + spelled(level, width) for level in range(2, levels + 1)]
-    return Value(b"{k=" * (levels - 1) + b"{}" + b";}" * (levels - 1),
-                 canonical([inner[0], b"Qk", *inner[1:], b"\xd0"]),
-                 b"{\nk = " * (levels - 1) + b"{\n}" + b";\n}" * (levels - 1) + b"\n",
-                 b"{\n" + b"".join(indent + b'"k" => {\n' for indent in indents[1:-1])
-                 + indents[-1] + b'"k" => {}\n' + b"".join(indent + b"}\n" for indent in reversed(indents[:-1])))
+    return Value(
+        b"{k=" * (levels - 1) + b"{}" + b";}" * (levels - 1),
+        canonical([inner[0], b"Qk", *inner[1:], b"\xd0"]),
+        b"{\nk = " * (levels - 1) + b"{\n}" + b";\n}" * (levels - 1) + b"\n",
+        b"{\n"
+        + b"".join(indent + b'"k" => {\n' for indent in indents[1:-1])
+        + indents[-1]
+        + b'"k" => {}\n'
+        + b"".join(indent + b"}\n" for indent in reversed(indents[:-1])),
+    )
 
 
 def accept(runs, name, value):
@@ -184,31 +224,51 @@ def refuse_all(runs, name, octets, refusal):
     """Has each command refuse the input."""
     runs.put("file", octets)
     runs.put("other", b"a")
-    for words in (["lint", "file"], ["convert", "binary1", "file", "out"], ["convert", "openstep", "file", "out"],
-                  ["print", "file"], ["same", "file", "other"], ["same", "other", "file"]):
+    for words in (
+        ["lint", "file"],
+        ["convert", "binary1", "file", "out"],
+        ["convert", "openstep", "file", "out"],
+        ["print", "file"],
+        ["same", "file", "other"],
+        ["same", "other", "file"],
+    ):
         runs.expect(name, words, 2, b"file: refused " + refusal + b"\n")
 
 
 def repeated(count):
-    """Returns a text of a dictionary whose last key repeats the first, the offset of that key, and a file of it."""
+    """Returns a text of a dictionary whose last key repeats the first, the offset of that key,
+    and a file of it."""
     made, width = keys(count), least(count + 2)
     at = 8 + len(head(0xD0, count)) + (count - 1) * width
-    return (made.text[:-1] + made.text[1:10] + b"}", len(made.text) - 1,
-            made.file[:at] + spelled(1, width) + made.file[at + width:])
+    return (
+        made.text[:-1] + made.text[1:10] + b"}",
+        len(made.text) - 1,
+        made.file[:at] + spelled(1, width) + made.file[at + width :],
+    )
 
 
 def refuse_long(runs):
     text, second, file = repeated(70_000)
-    refuse_all(runs, "70,000 keys and a duplicate, in a text", text, b"14 DuplicateKey at octet %d" % second)
+    refuse_all(
+        runs,
+        "70,000 keys and a duplicate, in a text",
+        text,
+        b"14 DuplicateKey at octet %d" % second,
+    )
     refuse_all(runs, "70,000 keys and a duplicate, in a file", file, b"14 DuplicateKey at object 0")
     digits = b"<" + b"07" * (3 << 20)
-    refuse_all(runs, "3 MiB of data without an end", digits, b"29 BadData at octet %d" % len(digits))
+    refuse_all(
+        runs, "3 MiB of data without an end", digits, b"29 BadData at octet %d" % len(digits)
+    )
     strings = b"(" + b"a, " * 1_100_000
-    refuse_all(runs, "1,100,000 strings without an end", strings, b"30 Expected at octet %d" % len(strings))
+    refuse_all(
+        runs, "1,100,000 strings without an end", strings, b"30 Expected at octet %d" % len(strings)
+    )
 
 
 def unused(count):
-    """Returns a file of so many objects, all of them one boolean, and the canonical file of that."""
+    """Returns a file of so many objects, all of them one boolean, and the
+    canonical file of that."""
     table = b"\x08" * count
     trailer = bytes([0] * 6 + [1, 4]) + spelled(count, 8) + bytes(8) + spelled(9, 8)
     return b"bplist00\x09" + table + trailer, canonical([b"\x09"])
@@ -221,7 +281,9 @@ def read_many(runs, count):
     runs.put("own", own)
     runs.expect(name, ["lint", "file"], 0, b"file: OK\n")
     runs.expect(name, ["convert", "binary1", "file", "out"], 0, b"", own)
-    runs.expect(name, ["convert", "openstep", "file", "out"], 2, b"file: refused 40 NotInOpenStep\n")
+    runs.expect(
+        name, ["convert", "openstep", "file", "out"], 2, b"file: refused 40 NotInOpenStep\n"
+    )
     runs.expect(name, ["print", "file"], 0, b"true\n")
     runs.expect(name, ["same", "file", "own"], 0, b"equal\n")
     runs.expect(name, ["check", "file"], 1, b"broken C3 at object 1\n")
@@ -233,7 +295,13 @@ def open_paths(runs):
     for size in (200, 4_090):
         path = "./" * ((size - 4) // 2) + "text"
         runs.expect(f"a path of {size} bytes", ["lint", path], 0, path.encode() + b": OK\n")
-        runs.expect(f"a path of {size} bytes", ["convert", "openstep", path, path[:-4] + "out"], 0, b"", b"a\n")
+        runs.expect(
+            f"a path of {size} bytes",
+            ["convert", "openstep", path, path[:-4] + "out"],
+            0,
+            b"",
+            b"a\n",
+        )
     for size in (300, 5_000):
         path = "n" * size
         refused = path.encode() + b": refused 50 ReadFailed\n"
@@ -243,7 +311,12 @@ def open_paths(runs):
 def try_all(runs):
     refuse(runs, "one node fewer than the limit", lists(NODES - 2), None)
     refuse(runs, "as many nodes as the limit", lists(NODES - 1), None)
-    refuse(runs, "one node more", lists(NODES), b"refused 17 TooManyNodes at octet %d" % (1 + 3 * (NODES - 1)))
+    refuse(
+        runs,
+        "one node more",
+        lists(NODES),
+        b"refused 17 TooManyNodes at octet %d" % (1 + 3 * (NODES - 1)),
+    )
     accept(runs, "70,000 keys", keys(70_000))
     accept(runs, "1,100,000 strings", items(1_100_000))
     accept(runs, "3 MiB of data", data(3 << 20))
@@ -257,7 +330,12 @@ def try_all(runs):
 
 def try_large(runs):
     refuse(runs, "as much payload as the limit", strings(UNITS - 1), None)
-    refuse(runs, "one letter more", strings(UNITS), b"refused 18 TooMuchPayload at octet %d" % (UNITS + 2))
+    refuse(
+        runs,
+        "one letter more",
+        strings(UNITS),
+        b"refused 18 TooMuchPayload at octet %d" % (UNITS + 2),
+    )
     read_many(runs, NODES + 84)
     accept(runs, "a text of 300 MB", data(150_000_000))
 
@@ -266,7 +344,7 @@ def main():
     program, large = os.path.abspath(sys.argv[1]), "--large" in sys.argv[2:]
     with tempfile.TemporaryDirectory() as folder:
         runs = Runs(program, folder)
-        for trying, memory in [(try_all, 1 << 30), (try_large, 3 << 30)][:2 if large else 1]:
+        for trying, memory in [(try_all, 1 << 30), (try_large, 3 << 30)][: 2 if large else 1]:
             if shutil.disk_usage(folder).free < 2_000_000_000 or 0 < available() < memory:
                 print("skipped: there is not enough memory, or no room on the disk")
                 return 1 if runs.wrong else 77

@@ -1,13 +1,16 @@
 #!/usr/bin/env python3
-"""scripts/out_of_memory.py [TREE]: prints the lines of code that make the refusal 60 by hand, within a second.
+"""scripts/out_of_memory.py [TREE]: prints the lines of code that make the refusal 60 by
+hand, within a second.
 
-No contract can say that memory was refused, so 60 has to come from the library's `AllocError` through `?`. A line makes it
-by hand if its code has one of the names in NAMES: outside of comments, clauses, types, declarations and `use` lines, and
-not only in the pattern of an arm of a `match`. An arm may give 60 if each of its patterns is 60.
+No contract can say that memory was refused, so 60 has to come from the library's `AllocError`
+through `?`. A line makes it by hand if its code has one of the names in NAMES: outside of comments,
+clauses, types, declarations and `use` lines, and not only in the pattern of an arm of a `match`. An
+arm may give 60 if each of its patterns is 60.
 
-Each such line has to be in scripts/out_of_memory.txt, with the reason that it may. A line of that list is
-`FILE | FUNCTION | REASON | CODE`, in which FUNCTION begins with the type or impl that it is in, or is `-` outside of
-functions. Fails if a line is not in the list, or if a line of the list is not in the code. Tests are passed over.
+Each such line has to be in scripts/out_of_memory.txt, with the reason that it may. A line of that
+list is `FILE | FUNCTION | REASON | CODE`, in which FUNCTION begins with the type or impl that it is
+in, or is `-` outside of functions. Fails if a line is not in the list, or if a line of the list is
+not in the code. Tests are passed over.
 """
 from __future__ import annotations
 
@@ -18,21 +21,29 @@ from pathlib import Path
 
 TOP = Path(__file__).resolve().parent.parent
 LIST = "scripts/out_of_memory.txt"
-TESTS = {"plist_tests", "rows", "test_files"}
+TESTS = {"plist_tests", "program_tests", "rows", "test_files"}
 NAMES = re.compile(
-    r"\b(?:OutOfMemory|NoMemory|AllocError|AllocFailed|(?<!fn )report_no_memory)\b|(?:=>|\breturn)\s*60\b")
+    r"\b(?:OutOfMemory|NoMemory|AllocError|AllocFailed|(?<!fn )report_no_memory)\b|(?:=>|\breturn)\s*60\b"
+)
 PATTERN = re.compile(r"\b(?:OutOfMemory|NoMemory|AllocError)\b|^60$")
 STRING = re.compile(r"""b?"(?:[^"\\]|\\.)*"|b?'(?:[^'\\\n]|\\[^\n]+?)'""", re.DOTALL)
 # A string or a character, a comment, a clause up to its brace, or a `use` line.
-TOKEN = re.compile(rf"""
+TOKEN = re.compile(
+    rf"""
     (?P<string> {STRING.pattern} )
   | (?P<comment> //[^\n]* )
   | (?P<clause> \b(?:requires|ensures)\*?(?:\s+\w+)?\s*(?=\{{) | \bghost\s+\w+\s*[:=]\s*(?=\{{) )
   | (?P<use> \b(?:pub\s+)?(?:ghost\s+)?use\s[^;]*; )
-""", re.VERBOSE | re.DOTALL)
-TYPE = re.compile(r"(?:(?<=, )|(?<=<)|(?<=: )|(?<=-> ))Alloc(?:Error|Failed<\w+>)(?=\s*(?:[>,;){]|$))")
-SCOPE = re.compile(r"\bfn\s+(?P<fn>\w+)|\bimpl\b(?P<impl>[^;{]*)|\btrait\s+(?P<trait>\w+)"
-                   r"|\b(?:enum|struct)\s+(?P<type>\w+)|(?P<brace>[{};])")
+""",
+    re.VERBOSE | re.DOTALL,
+)
+TYPE = re.compile(
+    r"(?:(?<=, )|(?<=<)|(?<=: )|(?<=-> ))Alloc(?:Error|Failed<\w+>)(?=\s*(?:[>,;){]|$))"
+)
+SCOPE = re.compile(
+    r"\bfn\s+(?P<fn>\w+)|\bimpl\b(?P<impl>[^;{]*)|\btrait\s+(?P<trait>\w+)"
+    r"|\b(?:enum|struct)\s+(?P<type>\w+)|(?P<brace>[{};])"
+)
 
 
 def blank(text):
@@ -57,20 +68,21 @@ def code_of(text):
         found = TOKEN.search(text, at)
         if not found:
             break
-        done.append(text[at:found.start()])
+        done.append(text[at : found.start()])
         at = found.end()
         if found["string"]:
             done.append(found[0])
         elif found["clause"]:
             at = closed(text, at)
-            done.append(blank(text[found.start():at]))
+            done.append(blank(text[found.start() : at]))
         else:
             done.append(blank(found[0]))
     return "".join(done) + text[at:]
 
 
 def functions(code):
-    """Returns for each line of the code the function that it begins in, or `None` in a type's declaration."""
+    """Returns for each line of the code the function that it begins in, or `None` in a
+    type's declaration."""
     places, scopes, next_scope, seen = [], [], "", 0
     marks = list(SCOPE.finditer(STRING.sub(lambda string: re.sub(r"[^\n]", "_", string[0]), code)))
     for start in (at.start() for at in re.finditer(r"^", code, re.MULTILINE)):
@@ -90,7 +102,9 @@ def functions(code):
                 scopes.pop()
             else:
                 next_scope = ""
-        places.append(None if None in scopes else ": ".join(scope for scope in scopes if scope) or "-")
+        places.append(
+            None if None in scopes else ": ".join(scope for scope in scopes if scope) or "-"
+        )
     return places
 
 
@@ -128,7 +142,8 @@ def listed(tree):
 
 
 def differences(tree):
-    """Returns a message for each line of code that is not in the list, and for each that is only in the list."""
+    """Returns a message for each line of code that is not in the list, and for each that is
+    only in the list."""
     left, wrong = Counter(listed(tree)), []
     for place, number in made(tree):
         if left[place] > 0:

@@ -16,7 +16,9 @@ cp HANDLES "$copy/"
 
 # Prints the crates of this repository that a crate uses, directly or not.
 below() {
-    for lower in $(sed -n "s/^$1\( [^:]*\)\{0,1\}://p" crates.txt); do
+    local uses lower
+    read -ra uses < <(sed -n "s/^$1\( [^:]*\)\{0,1\}://p" crates.txt)
+    for lower in "${uses[@]}"; do
         if [ -d "crates/$lower" ]; then
             echo "$lower"
             below "$lower"
@@ -24,7 +26,7 @@ below() {
     done
 }
 for lower in "$name" $(below "$name" | sort -u); do
-    grep "^$lower[ :]" crates.txt >> "$copy/crates.txt"
+    grep "^${lower}[ :]" crates.txt >> "$copy/crates.txt"
     cp -al "crates/$lower" "$copy/crates/$lower"
 done
 # The toolchain writes only for this crate, whose files must therefore not be hard links.

@@ -1,9 +1,10 @@
 #!/usr/bin/env python3
 """scripts/stale_mutants.py [NAME..]: prints the mutants that no longer apply, within a second.
 
-Checks the mutants in crates/NAME/must-fail/ and crates/NAME/edits/, of every crate if there is no NAME. Each `old:` text
-has to occur exactly once in its file, after the changes of the pairs before it, and its `new:` text has to change the
-file. Two mutants of one crate that make the same change are reported too. Fails if a mutant is stale.
+Checks the mutants in crates/NAME/must-fail/ and crates/NAME/edits/, of every crate if there is no
+NAME. Each `old:` text has to occur exactly once in its file, after the changes of the pairs before
+it, and its `new:` text has to change the file. Two mutants of one crate that make the same change
+are reported too. Fails if a mutant is stale.
 """
 
 import sys
@@ -13,7 +14,8 @@ CRATES = Path(__file__).resolve().parent.parent / "crates"
 
 
 def pairs(mutant):
-    """Yields the file of each pair of texts, with the text that the pair removes and the one that it inserts."""
+    """Yields the file of each pair of texts, with the text that the pair removes and the
+    one that it inserts."""
     file = old = None
     for line in mutant.read_text(encoding="utf-8").splitlines():
         word, _, text = line.partition(": ")
@@ -28,7 +30,8 @@ def pairs(mutant):
 
 
 def change(crate, mutant):
-    """Returns the files that the mutant changes. Raises `ValueError` with the reason if it does not apply."""
+    """Returns the files that the mutant changes. Raises `ValueError` with the reason if
+    it does not apply."""
     made = {}
     for file, old, new in pairs(mutant):
         text = made.get(file)

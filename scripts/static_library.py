@@ -1,10 +1,12 @@
 #!/usr/bin/env python3
-"""scripts/static_library.py ARCHIVE: builds crates/plistconv_c as a static library from the libraries that `rt ci` left.
+"""scripts/static_library.py ARCHIVE: builds crates/plistconv_c as a static library from the
+libraries that `rt ci` left.
 
-`rt ci` proves the crate but leaves no archive of it. `rt lib` would prove all crates below it again, since it does not
-accept libraries that were built from statements only, which have no stamp. If none has a stamp, this script runs only
-the last step of `rt lib`: it proves the crate with those libraries, like `rt ci`, and compiles it. In a tree that was
-worked in, `rt ci` restores the libraries that were there, with stamps; then this script does the same as `rt lib`.
+`rt ci` proves the crate but leaves no archive of it. `rt lib` would prove all crates below it
+again, since it does not accept libraries that were built from statements only, which have no stamp.
+If none has a stamp, this script runs only the last step of `rt lib`: it proves the crate with those
+libraries, like `rt ci`, and compiles it. In a tree that was worked in, `rt ci` restores the
+libraries that were there, with stamps; then this script does the same as `rt lib`.
 """
 import importlib.machinery
 import importlib.util
@@ -37,14 +39,19 @@ def main():
     rtlib.guarded()
     crate = rtlib.Crate(folder, TOP, {})
     held = rtlib.lock([*crate.below(), crate])
-    if any(os.path.isfile(os.path.join(lower.folder, "out", "rlib", "stamp")) for lower in crate.below()):
+    if any(
+        os.path.isfile(os.path.join(lower.folder, "out", "rlib", "stamp"))
+        for lower in crate.below()
+    ):
         for lower in crate.below():
             status = lower.build_rlib([], anew=False)
             if status:
                 return status
     missing = [lower.name for lower in crate.below() if not os.path.isdir(lower.rlib)]
     if missing:
-        sys.exit(f"static_library: no library of {', '.join(missing)}: `rt ci` leaves them where it proves them")
+        sys.exit(
+            f"static_library: no library of {', '.join(missing)}: `rt ci` leaves them where it proves them"
+        )
     os.makedirs("out", exist_ok=True)
     status = crate.compile([], archive)
     if status < 0:  # killed, most likely because it ran out of memory

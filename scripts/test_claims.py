@@ -185,7 +185,7 @@ class Claims(unittest.TestCase):
 
     def test_contracts_have_the_named_clauses_alone(self) -> None:
         text = self.read("out/claims.txt")
-        measured = text[text.index("it is the measure"):text.index("kinds are equal")]
+        measured = text[text.index("it is the measure") : text.index("kinds are equal")]
         self.assertIn("crates/high/src/lib.rt:25", measured)
         self.assertIn("// The measure itself.\n        ensures measure", measured)
         self.assertNotIn("IsKind", measured)
@@ -211,11 +211,36 @@ class Claims(unittest.TestCase):
 
     def test_what_is_not_explained_is_refused(self) -> None:
         for name, old, new, said in (
-            (TREES, "suc (sizes", "suc (lengths", "Trees.antt:15: size: nothing says what lengths is"),
-            ("crates/high/specs/Laws.antt", "size}", "depth as size}", "there is no depth in Rattle.low.specs.Trees"),
-            ("crates/low/src/kinds.rt", "Leaf,", "Twig,", "there is no Kind.Leaf in low/src/kinds.rt"),
-            ("crates/high/src/lib.rt", "M.measure it.now ≤ MOST", "it.weight ≤ MOST", "no type has a field weight"),
-            ("crates/high/src/lib.rt", "ensures measure", "ensures other", "high::measured has no clause measure"),
+            (
+                TREES,
+                "suc (sizes",
+                "suc (lengths",
+                "Trees.antt:15: size: nothing says what lengths is",
+            ),
+            (
+                "crates/high/specs/Laws.antt",
+                "size}",
+                "depth as size}",
+                "there is no depth in Rattle.low.specs.Trees",
+            ),
+            (
+                "crates/low/src/kinds.rt",
+                "Leaf,",
+                "Twig,",
+                "there is no Kind.Leaf in low/src/kinds.rt",
+            ),
+            (
+                "crates/high/src/lib.rt",
+                "M.measure it.now ≤ MOST",
+                "it.weight ≤ MOST",
+                "no type has a field weight",
+            ),
+            (
+                "crates/high/src/lib.rt",
+                "ensures measure",
+                "ensures other",
+                "high::measured has no clause measure",
+            ),
             ("docs/PROOFS.md", "`law`", "`laws`", "0 functions are laws"),
             (TREES, "sizes none = 0", "lengths none = 0", "nothing says what lengths is"),
             (TREES, "sizes (more t ts)", "sizes (many t ts)", "nothing says what many is"),

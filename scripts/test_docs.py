@@ -6,7 +6,10 @@ import docs
 
 PAGE = docs.TOP / "docs" / "PROOFS.md"
 CRATES = [crate for crate in docs.USES if crate not in docs.TESTS]
-GRAPH = [f"    {crate} → {', '.join(low for low in docs.USES[crate] if low in docs.USES)}\n" for crate in CRATES]
+GRAPH = [
+    f"    {crate} → {', '.join(low for low in docs.USES[crate] if low in docs.USES)}\n"
+    for crate in CRATES
+]
 
 
 class Docs(unittest.TestCase):
@@ -15,7 +18,15 @@ class Docs(unittest.TestCase):
         self.assertEqual([], list(docs.page_faults(PAGE, spans)))
 
     def test_names_that_do_not_exist_are_found(self):
-        names = "plist_gone", "make gone", "fuzz/gone.py", "laws::gone", "fits: gone", "Gone.antt", "put_gone"
+        names = (
+            "plist_gone",
+            "make gone",
+            "fuzz/gone.py",
+            "laws::gone",
+            "fits: gone",
+            "Gone.antt",
+            "put_gone",
+        )
         for text in [*(f"`{name}`" for name in names), "[it](gone.md)", "[it](#gone)"]:
             with self.subTest(text):
                 self.assertEqual(1, len(list(docs.page_faults(PAGE, text))))
@@ -26,7 +37,9 @@ class Docs(unittest.TestCase):
         self.assertNotEqual([], list(docs.graph_faults("".join(whole[1:]))))
 
     def test_crates_above_what_they_use_are_found(self):
-        self.assertLessEqual(len(CRATES), len(list(docs.layer_faults("    top    plistconv, plist_value\n"))))
+        self.assertLessEqual(
+            len(CRATES), len(list(docs.layer_faults("    top    plistconv, plist_value\n")))
+        )
 
 
 if __name__ == "__main__":

@@ -50,8 +50,10 @@ class OutOfMemory(unittest.TestCase):
         self.assertIn(old, CODE)
         with tempfile.TemporaryDirectory() as folder:
             tree = Path(folder)
-            for name, text in {f"crates/{crate}/src/lib.rt": CODE.replace(old, new, 1),
-                               "scripts/out_of_memory.txt": "# A list.\n\n" + listed}.items():
+            for name, text in {
+                f"crates/{crate}/src/lib.rt": CODE.replace(old, new, 1),
+                "scripts/out_of_memory.txt": "# A list.\n\n" + listed,
+            }.items():
                 (tree / name).parent.mkdir(parents=True)
                 (tree / name).write_text(text, encoding="utf-8")
             return out_of_memory.differences(tree)
@@ -65,33 +67,62 @@ class OutOfMemory(unittest.TestCase):
         self.assertEqual(self.differences(), [])
 
     def test_a_line_in_a_function(self):
-        self.is_refused("put makes 60 by hand: return Err(AllocError);", "        Ok(self.octets",
-                        "        if octet > 9 {\n            return Err(AllocError);\n        }\n        Ok(self.octets")
-        self.is_refused("put makes 60 by hand", "push(octet)?", "push(octet).map_err(|_| AllocError)?")
+        self.is_refused(
+            "put makes 60 by hand: return Err(AllocError);",
+            "        Ok(self.octets",
+            "        if octet > 9 {\n            return Err(AllocError);\n        }\n        Ok(self.octets",
+        )
+        self.is_refused(
+            "put makes 60 by hand", "push(octet)?", "push(octet).map_err(|_| AllocError)?"
+        )
 
     def test_an_arm_of_another_fault(self):
-        self.is_refused("named makes 60 by hand: _ => Err(", "_ => Ok(())", "_ => Err(Fault::OutOfMemory { sent: 0 })")
-        self.is_refused("named makes 60 by hand", "Err(AllocError) =>", "Err(AllocError) | Ok(()) =>")
+        self.is_refused(
+            "named makes 60 by hand: _ => Err(",
+            "_ => Ok(())",
+            "_ => Err(Fault::OutOfMemory { sent: 0 })",
+        )
+        self.is_refused(
+            "named makes 60 by hand", "Err(AllocError) =>", "Err(AllocError) | Ok(()) =>"
+        )
         self.is_refused("named makes 60 by hand", "_ => Ok(())", "_ => 60")
-        self.is_refused("named makes 60 by hand", "_ => Ok(())", "Ok(()) if put != AllocError => Err(AllocError)")
-        self.is_refused("named makes 60 by hand", "_ => Ok(())",
-                        "Err(AllocError) => Err(AllocError), _ => Err(AllocError)")
+        self.is_refused(
+            "named makes 60 by hand",
+            "_ => Ok(())",
+            "Ok(()) if put != AllocError => Err(AllocError)",
+        )
+        self.is_refused(
+            "named makes 60 by hand",
+            "_ => Ok(())",
+            "Err(AllocError) => Err(AllocError), _ => Err(AllocError)",
+        )
 
     def test_a_method_of_a_trait(self):
-        self.is_refused("Output: nothing makes 60", "impl<'a, W: Sink> Output<'a, W> {",
-                        "trait Output {\n    fn nothing() -> Result<(), AllocError> {\n        Err(AllocError)\n    }\n")
+        self.is_refused(
+            "Output: nothing makes 60",
+            "impl<'a, W: Sink> Output<'a, W> {",
+            "trait Output {\n    fn nothing() -> Result<(), AllocError> {\n        Err(AllocError)\n    }\n",
+        )
 
     def test_the_same_line_elsewhere_or_twice(self):
-        self.is_refused("put makes 60 by hand: Fault::OutOfMemory { sent: 0 }",
-                        "        Ok(self.octets", "        Fault::OutOfMemory { sent: 0 }\n        Ok(self.octets")
-        self.is_refused("from makes 60 by hand", "Fault::OutOfMemory { sent: 0 }",
-                        "Fault::OutOfMemory { sent: 0 };\nFault::OutOfMemory { sent: 0 }")
+        self.is_refused(
+            "put makes 60 by hand: Fault::OutOfMemory { sent: 0 }",
+            "        Ok(self.octets",
+            "        Fault::OutOfMemory { sent: 0 }\n        Ok(self.octets",
+        )
+        self.is_refused(
+            "from makes 60 by hand",
+            "Fault::OutOfMemory { sent: 0 }",
+            "Fault::OutOfMemory { sent: 0 };\nFault::OutOfMemory { sent: 0 }",
+        )
 
     def test_a_listed_line_that_is_gone(self):
         self.is_refused("not in the code", listed=LIST + LIST.replace("from", "into"))
         self.is_refused("not in the code", listed=LIST + LIST)
         with self.assertRaises(ValueError):
-            self.differences(listed="crates/low/src/lib.rt | from | Fault::OutOfMemory { sent: 0 }\n")
+            self.differences(
+                listed="crates/low/src/lib.rt | from | Fault::OutOfMemory { sent: 0 }\n"
+            )
 
     def test_tests_are_passed_over(self):
         self.assertEqual(self.differences(listed="", crate="plist_tests"), [])

@@ -1,4 +1,5 @@
-"""with_openstep_plist.py IN OUT: reads an OpenStep text with openstep_plist, and writes a binary property list."""
+"""with_openstep_plist.py IN OUT: reads an OpenStep text with openstep_plist, and writes a
+binary property list."""
 import plistlib
 import sys
 

@@ -21,9 +21,26 @@ import plistconv
 TOP = os.path.join(os.path.dirname(os.path.abspath(__file__)), "..", "..")
 
 VALUES = [
-    {}, [], "", "text", "héé 🙂", b"", b"\x00\xff" * 9, True, False, 0, -1, 2**63 - 1, -2**63, 1.5, -0.0,
-    datetime.datetime(2026, 1, 2, 3, 4, 5), ["a", "a", ["a"]], {"b": 1, "a": [True, {"c": b"x"}]},
-    {f"key{k}": list(range(k)) for k in range(20)}, ["x" * 300, list(range(-20, 300))],
+    {},
+    [],
+    "",
+    "text",
+    "héé 🙂",
+    b"",
+    b"\x00\xff" * 9,
+    True,
+    False,
+    0,
+    -1,
+    2**63 - 1,
+    -(2**63),
+    1.5,
+    -0.0,
+    datetime.datetime(2026, 1, 2, 3, 4, 5),
+    ["a", "a", ["a"]],
+    {"b": 1, "a": [True, {"c": b"x"}]},
+    {f"key{k}": list(range(k)) for k in range(20)},
+    ["x" * 300, list(range(-20, 300))],
 ]
 
 
@@ -80,7 +97,9 @@ class Values(unittest.TestCase):
 
     def test_order_of_keys(self):
         def dumps(order):
-            return plistlib.dumps({key: key for key in order}, fmt=plistlib.FMT_BINARY, sort_keys=False)
+            return plistlib.dumps(
+                {key: key for key in order}, fmt=plistlib.FMT_BINARY, sort_keys=False
+            )
 
         keys = [f"k{n}" for n in range(50)]
         first = dumps(keys)
@@ -112,8 +131,19 @@ class Values(unittest.TestCase):
         date = datetime.datetime(2025, 11, 22, 19, 54, 22)
         value = {"b": ["x", 5, 3.25, True, {}], "a": b"\x00\xff", "\u00e9\n": date}
         octets = plistlib.dumps(value, fmt=plistlib.FMT_BINARY, sort_keys=False)
-        lines = ["{", '  "a" => <00ff>', '  "b" => [', '    "x"', "    5", "    3.25", "    true", "    {}", "  ]",
-                 '  "\u00e9\\n" => date 785534062.0 (2025-11-22T19:54:22Z)', "}"]
+        lines = [
+            "{",
+            '  "a" => <00ff>',
+            '  "b" => [',
+            '    "x"',
+            "    5",
+            "    3.25",
+            "    true",
+            "    {}",
+            "  ]",
+            '  "\u00e9\\n" => date 785534062.0 (2025-11-22T19:54:22Z)',
+            "}",
+        ]
         self.assertEqual(plistconv.printed(octets), "\n".join(lines) + "\n")
 
     def test_corpus_of_plistlib(self):
@@ -128,7 +158,8 @@ class Values(unittest.TestCase):
         self.assertTrue(plistconv.check(ours) and plistconv.same(ours, octets))
         self.assertEqual(refused(plistconv.canonical, corpus.TESTDATA["KEYED_ARCHIVE"])[0], 9)
         self.assertEqual(refused(plistconv.canonical, corpus.TESTDATA[plistlib.FMT_XML])[0], 21)
-        # What plistlib refuses is refused, but here a string is any UTF-16 units, and a date any 8 bytes.
+        # What plistlib refuses is refused, but here a string is any UTF-16 units, and
+        # a date any 8 bytes.
         for name, octets in corpus.INVALID_BINARY_PLISTS:
             accepted = refused(plistconv.canonical, b"bplist00" + octets) is None
             self.assertEqual(accepted, name == "invalid UTF-16" or "datetime" in name, name)
@@ -145,15 +176,20 @@ class Refusals(unittest.TestCase):
         self.assertEqual(refused(plistconv.canonical, uid), (9, "object", 1, 1))
 
     def test_enum(self):
-        """The enum has the numbers and names of the library's source, and the library knows each of them."""
+        """The enum has the numbers and names of the library's source, and the library
+        knows each of them."""
         source = os.path.join(TOP, "crates", "plist_value", "src", "refusals.rt")
         with open(source, encoding="utf-8") as file:
             names = re.findall(r"(?m)^    (\w+) = (\d+),$", file.read())
-        wanted = {re.sub(r"(?<=.)([A-Z])", r"_\1", name).upper(): int(number) for name, number in names}
+        wanted = {
+            re.sub(r"(?<=.)([A-Z])", r"_\1", name).upper(): int(number) for name, number in names
+        }
         self.assertEqual({refusal.name: refusal.value for refusal in plistconv.Refusal}, wanted)
         for name, number in names:
-            lines = [str(plistconv.Refused(int(number), unit, place))
-                     for unit, place in [(None, None), ("object", 7), ("octet", 7), ("sent", 7)]]
+            lines = [
+                str(plistconv.Refused(int(number), unit, place))
+                for unit, place in [(None, None), ("object", 7), ("octet", 7), ("sent", 7)]
+            ]
             self.assertIn(f"{number} {name}", [" ".join(line.split()[:2]) for line in lines])
         with self.assertRaises(plistconv.Refused) as raised:
             plistconv.canonical(b"{a;a;}")
@@ -168,7 +204,8 @@ class Refusals(unittest.TestCase):
         self.assertIsNone(found.__traceback__)
 
     def test_size_of_input(self):
-        """No call reads an input of 4,294,967,296 bytes: its refusal is 52. The memory is never touched."""
+        """No call reads an input of 4,294,967,296 bytes: its refusal is 52. The memory
+        is never touched."""
         try:
             large = mmap.mmap(-1, 1 << 32)
         except (OSError, ValueError, OverflowError) as fault:
@@ -177,7 +214,11 @@ class Refusals(unittest.TestCase):
         octets, size = ctypes.c_uint8.from_buffer(large), ctypes.c_size_t(1 << 32)
         key, into, length, equal = bytes(16), bytes(1), ctypes.c_size_t(), ctypes.c_uint8()
         refusal, finding = plistconv._Refusal(), plistconv._Finding()
-        input, output = [ctypes.byref(octets), size], [into, ctypes.c_size_t(1), ctypes.byref(length)]
+        input, output = [ctypes.byref(octets), size], [
+            into,
+            ctypes.c_size_t(1),
+            ctypes.byref(length),
+        ]
         short, broken = [b"a", ctypes.c_size_t(1)], [b"(", ctypes.c_size_t(1)]
         for name, given, wanted in [
             ("canonical", [*input, key, *output], (52, 1)),
@@ -201,28 +242,40 @@ class Refusals(unittest.TestCase):
             (b'("a', b"a b.plist: refused 24 UnclosedString at octet 1"),
             (b"{a=1;a=2;}", b"a b.plist: refused 14 DuplicateKey at octet 5"),
             (b"bplist00", b"a b.plist: refused 1 TooShort"),
-            (plistlib.dumps([plistlib.UID(1)], fmt=plistlib.FMT_BINARY), b"a b.plist: refused 9 UidObject at object 1"),
+            (
+                plistlib.dumps([plistlib.UID(1)], fmt=plistlib.FMT_BINARY),
+                b"a b.plist: refused 9 UidObject at object 1",
+            ),
         ]:
             found = plistconv.lint(octets)
             self.assertEqual(found.line("a b.plist"), line)
-            self.assertEqual(str(found), line.decode()[len("a b.plist: refused "):])
+            self.assertEqual(str(found), line.decode()[len("a b.plist: refused ") :])
             # A path that is not UTF-8, and one that is longer than the first buffer.
             for path in [b"\xff\xfe", b"p" * 1000]:
-                self.assertEqual(found.line(path), path + line[len(b"a b.plist"):])
+                self.assertEqual(found.line(path), path + line[len(b"a b.plist") :])
 
     def test_between_processes(self):
-        for octets, place in [(b"{a=1;a=2;}", (14, "octet", 5, 1)), (b"bplist00", (1, None, None, 1))]:
+        for octets, place in [
+            (b"{a=1;a=2;}", (14, "octet", 5, 1)),
+            (b"bplist00", (1, None, None, 1)),
+        ]:
             found = plistconv.lint(octets)
             copy = pickle.loads(pickle.dumps(found))
             self.assertEqual((copy.number, copy.unit, copy.place, copy.input), place)
-            self.assertEqual((str(copy), copy.line("a"), copy.args), (str(found), found.line("a"), found.args))
+            self.assertEqual(
+                (str(copy), copy.line("a"), copy.args), (str(found), found.line("a"), found.args)
+            )
         try:
             pool = concurrent.futures.ProcessPoolExecutor(1)
         except (ImportError, NotImplementedError, OSError) as fault:
             self.skipTest(f"there are no semaphores ({fault})")
         with pool:
-            self.assertEqual(pool.submit(plistconv.canonical, b"{}").result(), plistconv.canonical(b"{}"))
-            self.assertEqual(refused(pool.submit(plistconv.canonical, b'("a').result), (24, "octet", 1, 1))
+            self.assertEqual(
+                pool.submit(plistconv.canonical, b"{}").result(), plistconv.canonical(b"{}")
+            )
+            self.assertEqual(
+                refused(pool.submit(plistconv.canonical, b'("a').result), (24, "octet", 1, 1)
+            )
 
 
 class Arguments(unittest.TestCase):
@@ -241,14 +294,17 @@ class Arguments(unittest.TestCase):
             ours = plistconv.canonical(octets)
             for key in [bytes(16), b"k" * 16, bytearray(range(16))]:
                 self.assertEqual(plistconv.canonical(octets, key), ours)
-                self.assertTrue(plistconv.same(octets, ours, key=key) and plistconv.check(ours, key))
+                self.assertTrue(
+                    plistconv.same(octets, ours, key=key) and plistconv.check(ours, key)
+                )
         for wrong in [b"", b"k" * 15, bytes(17)]:
             with self.assertRaises(ValueError) as raised:
                 plistconv.check(b"", wrong)
             self.assertNotIsInstance(raised.exception, plistconv.Refused)
 
     def test_data_that_collide(self):
-        """Data that were picked to collide under the fixed seed have the same canonical file under any key."""
+        """Data that were picked to collide under the fixed seed have the same canonical
+        file under any key."""
         zero = 0x9E3779B97F4A7C15.to_bytes(8, "little")
         data = [n.to_bytes(8, "little") + zero + bytes(16) for n in range(2_000)]
         octets = plistlib.dumps(data, fmt=plistlib.FMT_BINARY)
@@ -266,7 +322,8 @@ class Module(unittest.TestCase):
         self.assertEqual(doctest.testmod(plistconv).failed, 0)
 
     def fault_of_import(self, library, lines=""):
-        """Returns the last line that an import of the module prints, after these lines, with this library."""
+        """Returns the last line that an import of the module prints, after these lines,
+        with this library."""
         environment = dict(os.environ, PLISTCONV_LIBRARY=library)
         environment["PYTHONPATH"] = os.path.dirname(os.path.dirname(plistconv.__file__))
         code = f"import ctypes\n{lines}\nimport plistconv"
@@ -294,11 +351,15 @@ class Module(unittest.TestCase):
         return version
 def version(): return %s
 ctypes.CDLL = Library"""
-        wanted = f"plistconv {plistconv.__version__} needs libplistconv {plistconv.__version__} or later"
+        wanted = (
+            f"plistconv {plistconv.__version__} needs libplistconv {plistconv.__version__} or later"
+        )
         last = self.fault_of_import("old.so", fake % "200")
         self.assertIn(f"old.so has version 0.2.0, which is too old: {wanted}", last)
         last = self.fault_of_import("part.so", fake % "99_99_99")
-        self.assertIn("part.so, version 99.99.99, is incomplete: no symbol plistconv_canonical", last)
+        self.assertIn(
+            "part.so, version 99.99.99, is incomplete: no symbol plistconv_canonical", last
+        )
 
     def test_order_of_versions(self):
         self.assertLess(plistconv._numbers("0.9.0"), plistconv._numbers("0.10.0"))
@@ -319,7 +380,8 @@ class Threads(unittest.TestCase):
         return seen[0]
 
     def test_depth(self):
-        """Values of the greatest depth, 512, and one level more, in threads with stacks of several sizes."""
+        """Values of the greatest depth, 512, and one level more, in threads with stacks
+        of several sizes."""
         deep = b"(" * 511 + b"a" + b")" * 511
 
         def work():
@@ -335,7 +397,9 @@ class Threads(unittest.TestCase):
         octets = [plistlib.dumps(value, fmt=plistlib.FMT_BINARY) for value in VALUES]
         wanted = [plistconv.canonical(each) for each in octets]
         with concurrent.futures.ThreadPoolExecutor(4) as pool:
-            for answers in pool.map(lambda _: [plistconv.canonical(each) for each in octets], range(80)):
+            for answers in pool.map(
+                lambda _: [plistconv.canonical(each) for each in octets], range(80)
+            ):
                 self.assertEqual(answers, wanted)
 
 

@@ -1,6 +1,8 @@
-"""Builds the wheel and the source archive of plistconv, for `pip install`: without setuptools, so without a network.
+"""Builds the wheel and the source archive of plistconv, for `pip install`: without setuptools,
+so without a network.
 
-The hooks are those of PEP 517 and, for `pip install -e`, of PEP 660. The version is the module's own.
+The hooks are those of PEP 517 and, for `pip install -e`, of PEP 660. The version
+is the module's own.
 """
 import base64
 import hashlib
@@ -21,7 +23,7 @@ def read(name):
         return file.read()
 
 
-VERSION = re.search(rb'__version__ = "(.*)"', read(FILES[0]))[1].decode()
+VERSION = re.findall(rb'__version__ = "(.*)"', read(FILES[0]))[0].decode()
 METADATA = f"""Metadata-Version: 2.1
 Name: plistconv
 Version: {VERSION}
@@ -74,7 +76,9 @@ def build_editable(wheel_directory, config_settings=None, metadata_directory=Non
 
 def build_sdist(sdist_directory, config_settings=None):
     folder = f"plistconv-{VERSION}"
-    with tarfile.open(os.path.join(sdist_directory, f"{folder}.tar.gz"), "w:gz", format=tarfile.PAX_FORMAT) as archive:
+    with tarfile.open(
+        os.path.join(sdist_directory, f"{folder}.tar.gz"), "w:gz", format=tarfile.PAX_FORMAT
+    ) as archive:
         for file, octets in [("PKG-INFO", METADATA), *((file, read(file)) for file in SOURCES)]:
             entry = tarfile.TarInfo(f"{folder}/{file}")
             entry.size = len(octets)

@@ -1,7 +1,8 @@
 """Property lists in their canonical form, by the C library libplistconv.
 
-The functions take bytes, bytearrays and memoryviews. If the input is refused they raise `Refused`, a `ValueError`, with
-the refusal and the place in the input; if there is no memory left they raise `MemoryError`.
+The functions take bytes, bytearrays and memoryviews. If the input is refused they raise
+`Refused`, a `ValueError`, with the refusal and the place in the input; if there is no memory left
+they raise `MemoryError`.
 
     >>> import plistconv
     >>> plistconv.same(b"{ a = (x, y); }", b'"a" = (x, "y",);')
@@ -19,14 +20,17 @@ the refusal and the place in the input; if there is no memory left they raise `M
     ...     print(refused.refusal.name, refused.place, refused)
     DUPLICATE_KEY 9 14 DuplicateKey at octet 9
 
-Scalars are hashed under a random key, one for the process, so nobody can pick input that is slow because its scalars
-collide. `key` is another key of 16 bytes; 16 zeros are a fixed seed, which is faster. No answer depends on the key.
+Scalars are hashed under a random key, one for the process, so nobody can pick input that is slow
+because its scalars collide. `key` is another key of 16 bytes; 16 zeros are a fixed seed, which is
+faster. No answer depends on the key.
 
-The functions may be called from any thread. The library needs up to 1 MiB of stack; in a thread with less, a call runs
-in a thread of its own. A stack that is nearly used up, as by deep recursion in C, is not noticed.
+The functions may be called from any thread. The library needs up to 1 MiB of stack; in a thread
+with less, a call runs in a thread of its own. A stack that is nearly used up, as by deep recursion
+in C, is not noticed.
 
-The library is the file that the environment variable PLISTCONV_LIBRARY names, else libplistconv.so.1 of the system. If
-there is none, or it is older than the module, importing it raises `ImportError`.
+The library is the file that the environment variable PLISTCONV_LIBRARY names, else
+libplistconv.so.1 of the system. If there is none, or it is older than the module, importing it
+raises `ImportError`.
 """
 from __future__ import annotations
 
@@ -37,7 +41,18 @@ import os
 import threading
 from typing import Any, Callable, List, Optional, Tuple, Union
 
-__all__ = ["Refusal", "Refused", "Finding", "canonical", "same", "lint", "check", "text", "printed", "library_version"]
+__all__ = [
+    "Refusal",
+    "Refused",
+    "Finding",
+    "canonical",
+    "same",
+    "lint",
+    "check",
+    "text",
+    "printed",
+    "library_version",
+]
 __version__ = "0.3.0"
 
 Octets = Union[bytes, bytearray, memoryview]
@@ -47,8 +62,9 @@ _LEAST_STACK = 1 << 20
 
 
 class Refusal(enum.IntEnum):
-    """The refusals by number. docs/FORMATS.md says when each is answered, and which place it names. Of the last ones,
-    50 and 51 are answered by the program only, and 60 is raised as `MemoryError`."""
+    """The refusals by number. docs/FORMATS.md says when each is answered, and which place
+    it names. Of the last ones, 50 and 51 are answered by the program only, and 60 is raised
+    as `MemoryError`."""
 
     TOO_SHORT = 1
     BAD_HEADER = 2
@@ -88,41 +104,54 @@ class Refusal(enum.IntEnum):
 
 
 class _Refusal(ctypes.Structure):
-    _fields_ = [("place", ctypes.c_uint64), ("number", ctypes.c_uint8), ("unit", ctypes.c_uint8),
-                ("input", ctypes.c_uint8)]
+    _fields_ = [
+        ("place", ctypes.c_uint64),
+        ("number", ctypes.c_uint8),
+        ("unit", ctypes.c_uint8),
+        ("input", ctypes.c_uint8),
+    ]
 
 
 class _Finding(ctypes.Structure):
-    _fields_ = [("object", ctypes.c_uint64), ("canonical", ctypes.c_uint8), ("rule", ctypes.c_uint8)]
+    _fields_ = [
+        ("object", ctypes.c_uint64),
+        ("canonical", ctypes.c_uint8),
+        ("rule", ctypes.c_uint8),
+    ]
 
 
 class Refused(ValueError):
-    """The input is refused: `refusal` says why, and `number` is its number. `place` is where, or None if the refusal
-    has no place; `unit` says what it counts: 'octet' (a byte offset in a text) or 'object' (the number of an object of
-    a binary file). `input` is 1, or 2 if the second argument of `same` is refused."""
+    """The input is refused: `refusal` says why, and `number` is its number. `place` is where, or
+    None if the refusal has no place; `unit` says what it counts: 'octet' (a byte offset in a text)
+    or 'object' (the number of an object of a binary file). `input` is 1, or 2 if the second
+    argument of `same` is refused."""
 
     number: int
     unit: Optional[str]
     place: Optional[int]
     input: int
 
-    def __init__(self, number: int, unit: Optional[str] = None, place: Optional[int] = None, input: int = 1) -> None:
+    def __init__(
+        self, number: int, unit: Optional[str] = None, place: Optional[int] = None, input: int = 1
+    ) -> None:
         self.number, self.unit, self.place, self.input = number, unit, place, input
         super().__init__(number, unit, place, input)
 
     @property
     def refusal(self) -> Refusal:
-        """Why. Raises `ValueError` if no refusal has the number, which the functions of this module never raise."""
+        """Why. Raises `ValueError` if no refusal has the number, which the functions of this
+        module never raise."""
         return Refusal(self.number)
 
     def __str__(self) -> str:
         try:
-            return self.line(b"")[len(": refused "):].decode("ascii")
+            return self.line(b"")[len(": refused ") :].decode("ascii")
         except ValueError:  # (no call answers such a refusal)
             return f"refused {self.number}"
 
     def line(self, path: Union[str, bytes, "os.PathLike[str]"]) -> bytes:
-        """Returns the line that the program prints if the file `path` is refused so, without a newline."""
+        """Returns the line that the program prints if the file `path` is refused so,
+        without a newline."""
         path = os.fsencode(path)
         refusal = _Refusal(self.place or 0, self.number, _UNITS.index(self.unit), self.input)
         return _filled(_library.plistconv_line, 64, path, len(path), ctypes.byref(refusal))
@@ -130,8 +159,9 @@ class Refused(ValueError):
 
 @dataclasses.dataclass(frozen=True)
 class Finding:
-    """What `check` finds, which is true if and only if the file is canonical. If it is not, `rule` is the number of a
-    rule that is broken (0 to 7), and `object` the number of the object at which it is."""
+    """What `check` finds, which is true if and only if the file is canonical. If it is not,
+    `rule` is the number of a rule that is broken (0 to 7), and `object` the number of the
+    object at which it is."""
 
     canonical: bool
     rule: Optional[int] = None
@@ -155,13 +185,16 @@ def _numbers(version: str) -> List[int]:
 
 
 def _load() -> Any:
-    """Returns the library. Raises `ImportError` if there is none, or one without the functions of this version."""
+    """Returns the library. Raises `ImportError` if there is none, or one without the
+    functions of this version."""
     name = os.environ.get("PLISTCONV_LIBRARY", "libplistconv.so.1")
     way_out = "Install it, or set the environment variable PLISTCONV_LIBRARY to the path of libplistconv.so"
     try:
         library = ctypes.CDLL(name)
     except OSError as fault:
-        raise ImportError(f"plistconv needs the C library libplistconv: {fault}. {way_out}") from fault
+        raise ImportError(
+            f"plistconv needs the C library libplistconv: {fault}. {way_out}"
+        ) from fault
     try:
         version = _version_of(library)
     except AttributeError as fault:
@@ -176,14 +209,28 @@ def _load() -> Any:
 
 
 def _with_types(library: Any) -> Any:
-    """Returns the library with the types of its functions. Raises `AttributeError` if it does not have one of them."""
-    octets, size, key, refusal = ctypes.c_char_p, ctypes.c_size_t, ctypes.c_char_p, ctypes.POINTER(_Refusal)
+    """Returns the library with the types of its functions. Raises `AttributeError` if it does not
+    have one of them."""
+    octets, size, key, refusal = (
+        ctypes.c_char_p,
+        ctypes.c_size_t,
+        ctypes.c_char_p,
+        ctypes.POINTER(_Refusal),
+    )
     into = [ctypes.c_void_p, size, ctypes.POINTER(size)]
     for name, arguments in {
         "plistconv_canonical": [octets, size, key, *into, refusal],
         "plistconv_text": [octets, size, *into, refusal],
         "plistconv_print": [octets, size, *into, refusal],
-        "plistconv_same": [octets, size, octets, size, key, ctypes.POINTER(ctypes.c_uint8), refusal],
+        "plistconv_same": [
+            octets,
+            size,
+            octets,
+            size,
+            key,
+            ctypes.POINTER(ctypes.c_uint8),
+            refusal,
+        ],
         "plistconv_lint": [octets, size, refusal],
         "plistconv_check": [octets, size, key, ctypes.POINTER(_Finding), refusal],
         "plistconv_line": [octets, size, refusal, *into],
@@ -218,14 +265,15 @@ def _size_of_stack() -> Optional[int]:
 
 
 def _call_with_stack(call: Callable[[], None]) -> None:
-    """Runs `call` in a new thread with a large stack. It is not one of `threading`, whose size of stacks is a setting
-    of the whole process."""
+    """Runs `call` in a new thread with a large stack. It is not one of `threading`, whose size of
+    stacks is a setting of the whole process."""
     system, attributes, thread = ctypes.CDLL(None), (ctypes.c_uint64 * 32)(), ctypes.c_void_p()
     begin = ctypes.CFUNCTYPE(ctypes.c_void_p, ctypes.c_void_p)(lambda _: call())
     failed = system.pthread_attr_init(attributes)
     if not failed:
-        failed = (system.pthread_attr_setstacksize(attributes, ctypes.c_size_t(2 * _LEAST_STACK))
-                  or system.pthread_create(ctypes.byref(thread), attributes, begin, None))
+        failed = system.pthread_attr_setstacksize(
+            attributes, ctypes.c_size_t(2 * _LEAST_STACK)
+        ) or system.pthread_create(ctypes.byref(thread), attributes, begin, None)
         system.pthread_attr_destroy(attributes)
     if failed:
         raise MemoryError("no thread for a call that needs more stack")
@@ -245,7 +293,8 @@ def _call(function: Any, *given: Any) -> int:
 
 
 def _octets(given: Octets) -> bytes:
-    """Returns the bytes of a buffer. Anything else is a TypeError, also an integer, which bytes() would accept."""
+    """Returns the bytes of a buffer. Anything else is a TypeError, also an integer, which
+    bytes() would accept."""
     return given if isinstance(given, bytes) else bytes(memoryview(given))
 
 
@@ -279,7 +328,7 @@ def _filled(function: Any, room: int, *given: Any, refusal: Optional[_Refusal] =
                 raise ValueError("no call answers such a refusal")
             raise _refused(refusal)
         if length.value <= room:
-            return bytes(memoryview(into)[:length.value])
+            return bytes(memoryview(into)[: length.value])
         room = length.value
 
 
@@ -297,18 +346,20 @@ def _answered(function: Any, given: Tuple[Any, ...], answer: Any) -> Any:
 
 
 def canonical(octets: Octets, key: Optional[Octets] = None) -> bytes:
-    """Returns the canonical file: the binary property list that is the same for all inputs with the same value."""
+    """Returns the canonical file: the binary property list that is the same for all inputs
+    with the same value."""
     return _converted(_library.plistconv_canonical, octets, _key_of(key))
 
 
 def text(octets: Octets) -> bytes:
-    """Returns the OpenStep text of a property list. That has no numbers, booleans or dates, so a property list with one
-    is refused (`Refusal.NOT_IN_OPEN_STEP`)."""
+    """Returns the OpenStep text of a property list. That has no numbers, booleans or dates, so a
+    property list with one is refused (`Refusal.NOT_IN_OPEN_STEP`)."""
     return _converted(_library.plistconv_text, octets)
 
 
 def printed(octets: Octets) -> str:
-    """Returns a property list as text for people. Two print the same if and only if they are equal."""
+    """Returns a property list as text for people. Two print the same if and only
+    if they are equal."""
     return _converted(_library.plistconv_print, octets).decode("utf-8")
 
 
@@ -328,7 +379,8 @@ def lint(octets: Octets) -> Optional[Refused]:
 
 
 def check(octets: Octets, key: Optional[Octets] = None) -> Finding:
-    """Checks whether a binary property list is already canonical. Other input is refused (1 to 3)."""
+    """Checks whether a binary property list is already canonical. Other input is
+    refused (1 to 3)."""
     octets = _octets(octets)
     found = _answered(_library.plistconv_check, (octets, len(octets), _key_of(key)), _Finding())
     return Finding(True) if found.canonical else Finding(False, found.rule, found.object)
