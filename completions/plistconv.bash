@@ -22,6 +22,6 @@ _plistconv() {
             [[ $word != -* ]] || offered=--help
             ;;
     esac
-    COMPREPLY+=($(compgen -W "$offered" -- "$word"))
+    mapfile -t -O ${#COMPREPLY[@]} COMPREPLY < <(compgen -W "$offered" -- "$word")
 }
 complete -F _plistconv plistconv

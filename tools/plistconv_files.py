@@ -1,4 +1,5 @@
-"""Replaces files in one step by new ones with the same owner, group, mode and extended attributes."""
+"""Replaces files in one step by new ones with the same owner, group, mode and
+extended attributes."""
 from __future__ import annotations
 
 import errno
@@ -24,8 +25,8 @@ def state(about: os.stat_result) -> tuple[int, ...]:
 
 
 def to_replace(name: str, follows: bool) -> tuple[str, os.stat_result]:
-    """Returns the path of a regular file and its state, before it is read. Raises `OSError`, or `Refused` for other
-    files, and for a symbolic link unless links are followed."""
+    """Returns the path of a regular file and its state, before it is read. Raises `OSError`, or
+    `Refused` for other files, and for a symbolic link unless links are followed."""
     seen, path = os.stat(name), os.path.realpath(name)
     is_open_file = os.path.abspath(name).startswith(("/dev/std", "/dev/fd/", "/proc/"))
     if is_open_file or not stat.S_ISREG(seen.st_mode) or not os.path.samestat(seen, os.stat(path)):
@@ -36,23 +37,29 @@ def to_replace(name: str, follows: bool) -> tuple[str, os.stat_result]:
 
 
 def to_write(name: str, follows: bool) -> tuple[str, os.stat_result | None]:
-    """Returns the path of a regular file and its state, or that of a file that does not exist yet, and `None`."""
+    """Returns the path of a regular file and its state, or that of a file that does not
+    exist yet, and `None`."""
     if os.path.lexists(name):
         return to_replace(name, follows)
-    return os.path.join(os.path.realpath(os.path.dirname(name) or "."), os.path.basename(name)), None
+    return (
+        os.path.join(os.path.realpath(os.path.dirname(name) or "."), os.path.basename(name)),
+        None,
+    )
 
 
 def read(path: str, seen: os.stat_result) -> bytes:
     """Returns the content of a file, which must still be the same one."""
-    with open(path, "rb", opener=lambda path, flags: os.open(path, flags | os.O_NOFOLLOW | os.O_NONBLOCK)) as file:
+    with open(
+        path, "rb", opener=lambda path, flags: os.open(path, flags | os.O_NOFOLLOW | os.O_NONBLOCK)
+    ) as file:
         if state(os.fstat(file.fileno())) != state(seen):
             raise tools.Refused("changed meanwhile")
         return file.read()
 
 
 def keep_owner(file: int, seen: os.stat_result, is_forced: bool) -> list[str]:
-    """Gives the new file the owner and the group of the old one, or the group alone. Returns what is not kept, or
-    raises `Refused` if that is not forced."""
+    """Gives the new file the owner and the group of the old one, or the group alone. Returns what
+    is not kept, or raises `Refused` if that is not forced."""
     for owner in (seen.st_uid, -1):
         try:
             os.fchown(file, owner, seen.st_gid)
@@ -67,8 +74,8 @@ def keep_owner(file: int, seen: os.stat_result, is_forced: bool) -> list[str]:
 
 
 def keep_attributes(file: int, path: str) -> list[str]:
-    """Gives the new file the extended attributes of the old one, its access control list too. Returns the names of
-    those that are not kept."""
+    """Gives the new file the extended attributes of the old one, its access control list too.
+    Returns the names of those that are not kept."""
     if not hasattr(os, "listxattr"):
         return []
     try:
@@ -114,11 +121,15 @@ def is_unchanged(path: str, seen: os.stat_result | None) -> bool:
 
 
 def write(
-    path: str, seen: os.stat_result | None, octets: bytes, is_forced: bool = False, mode: int = 0o666
+    path: str,
+    seen: os.stat_result | None,
+    octets: bytes,
+    is_forced: bool = False,
+    mode: int = 0o666,
 ) -> list[str]:
-    """Replaces the content of a file in one step, or makes a new one with the mode, and returns what could not be kept
-    of the old one. Raises `OSError`, or `Refused` if the file has changed since it was seen or its owner or group
-    cannot be kept, and then leaves it unchanged."""
+    """Replaces the content of a file in one step, or makes a new one with the mode, and returns
+    what could not be kept of the old one. Raises `OSError`, or `Refused` if the file has changed
+    since it was seen or its owner or group cannot be kept, and then leaves it unchanged."""
     file, beside = tempfile.mkstemp(prefix=BESIDE, dir=os.path.dirname(path))
     try:
         try:
@@ -141,7 +152,8 @@ def write(
 
 @lru_cache(maxsize=None)
 def sweep(folder: str) -> None:
-    """Removes new files that commands left in the folder when they were killed more than a day ago."""
+    """Removes new files that commands left in the folder when they were killed
+    more than a day ago."""
     with suppress(OSError):
         for entry in os.scandir(folder):
             about = entry.stat(follow_symlinks=False) if LEFT.fullmatch(entry.name) else None

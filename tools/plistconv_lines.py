@@ -1,7 +1,8 @@
 """Compares long texts line by line, as a unified diff.
 
-difflib alone takes minutes for the printed texts of large property lists, which have many equal lines. So lines that
-occur once in each text are matched first, and difflib compares only the lines between them.
+difflib alone takes minutes for the printed texts of large property lists, which have many
+equal lines. So lines that occur once in each text are matched first, and difflib compares only
+the lines between them.
 """
 from __future__ import annotations
 
@@ -24,7 +25,11 @@ class Lines(difflib.SequenceMatcher):
         """Returns the runs of equal lines, as difflib does, with an empty one at the end."""
         blocks: list[difflib.Match] = []
         for i, j in sorted(self.pairs()):
-            if blocks and blocks[-1].a + blocks[-1].size == i and blocks[-1].b + blocks[-1].size == j:
+            if (
+                blocks
+                and blocks[-1].a + blocks[-1].size == i
+                and blocks[-1].b + blocks[-1].size == j
+            ):
                 blocks[-1] = blocks[-1]._replace(size=blocks[-1].size + 1)
             else:
                 blocks.append(difflib.Match(i, j, 1))
@@ -47,9 +52,13 @@ class Lines(difflib.SequenceMatcher):
             anchors = self.anchors(first, last, begin, end)
             if anchors:
                 starts = [(first, begin), *anchors]
-                parts.extend((i, k, j, m) for (i, j), (k, m) in zip(starts, [*anchors, (last, end)]))
+                parts.extend(
+                    (i, k, j, m) for (i, j), (k, m) in zip(starts, [*anchors, (last, end)])
+                )
             elif (last - first) * (end - begin) <= MOST:
-                matcher = difflib.SequenceMatcher(None, self.old[first:last], self.new[begin:end], autojunk=False)
+                matcher = difflib.SequenceMatcher(
+                    None, self.old[first:last], self.new[begin:end], autojunk=False
+                )
                 for i, j, size in matcher.get_matching_blocks():
                     found.extend((first + i + n, begin + j + n) for n in range(size))
         return found
@@ -59,7 +68,9 @@ class Lines(difflib.SequenceMatcher):
         old, new = Counter(self.old[first:last]), Counter(self.new[begin:end])
         places = {line: j for j, line in enumerate(self.new[begin:end], begin) if new[line] == 1}
         tails: list[int] = []  # for each length of a sequence, its least end
-        rows: list[tuple[int, int, int]] = []  # the lines, each with its predecessor in the sequence
+        rows: list[
+            tuple[int, int, int]
+        ] = []  # the lines, each with its predecessor in the sequence
         ends: list[int] = []  # for each length, the last line of the sequence
         for i in range(first, last):
             j = places.get(self.old[i], -1)
@@ -67,7 +78,7 @@ class Lines(difflib.SequenceMatcher):
                 continue
             length = bisect.bisect_left(tails, j)
             rows.append((i, j, ends[length - 1] if length else -1))
-            tails[length:length + 1], ends[length:length + 1] = [j], [len(rows) - 1]
+            tails[length : length + 1], ends[length : length + 1] = [j], [len(rows) - 1]
         found, at = [], ends[-1] if ends else -1
         while at >= 0:
             i, j, at = rows[at]
@@ -85,7 +96,9 @@ def unified(old: list[bytes], new: list[bytes], names: tuple[str, str]) -> bytes
     """Returns the unified diff of two texts, which is empty if they are the same."""
     printed = [f"--- {names[0]}\n+++ {names[1]}\n".encode()]
     for group in Lines(old, new).get_grouped_opcodes(CONTEXT):
-        printed.append(f"@@ -{span(group[0][1], group[-1][2])} +{span(group[0][3], group[-1][4])} @@\n".encode())
+        printed.append(
+            f"@@ -{span(group[0][1], group[-1][2])} +{span(group[0][3], group[-1][4])} @@\n".encode()
+        )
         for kind, first, last, begin, end in group:
             if kind == "equal":
                 printed.extend(b" " + line for line in old[first:last])

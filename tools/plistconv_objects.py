@@ -1,4 +1,5 @@
-"""Reads the objects of a binary property list, which may be broken anywhere, and finds the paths to them."""
+"""Reads the objects of a binary property list, which may be broken anywhere, and finds
+the paths to them."""
 from __future__ import annotations
 
 import json
@@ -9,16 +10,24 @@ import plistconv_tools as tools
 
 MOST = 1 << 24  # the most references that are followed
 LONGEST = 60  # the most characters of a key that are shown
-NAMES = {0x00: "a null", 0x08: "false", 0x09: "true", 0x22: "a real of 4 bytes", 0x23: "a real of 8 bytes",
-         0x33: "a date"}
-COUNTED = {  # by the high half of the marker: the words, and the bytes of a unit, or 0 for references
-    0x4: ("data of", "byte", 1),
-    0x5: ("a string of", "ASCII character", 1),
-    0x6: ("a string of", "UTF-16 unit", 2),
-    0xA: ("an array of", "item", 0),
-    0xC: ("a set of", "item", 0),
-    0xD: ("a dictionary of", "pair", 0),
+NAMES = {
+    0x00: "a null",
+    0x08: "false",
+    0x09: "true",
+    0x22: "a real of 4 bytes",
+    0x23: "a real of 8 bytes",
+    0x33: "a date",
 }
+COUNTED = (
+    {  # by the high half of the marker: the words, and the bytes of a unit, or 0 for references
+        0x4: ("data of", "byte", 1),
+        0x5: ("a string of", "ASCII character", 1),
+        0x6: ("a string of", "UTF-16 unit", 2),
+        0xA: ("an array of", "item", 0),
+        0xC: ("a set of", "item", 0),
+        0xD: ("a dictionary of", "pair", 0),
+    }
+)
 TABLE = 0xD
 FORMS = {1: "B", 2: "H", 4: "I", 8: "Q"}  # of references, by width
 CONTAINERS = (0xA, 0xC, TABLE)
@@ -30,12 +39,13 @@ def number_of(octets: bytes) -> int:
 
 
 class Object:
-    """Where an object begins, its marker, and where its content begins and ends. If its count cannot be read, `count`
-    is `None`."""
+    """Where an object begins, its marker, and where its content begins and ends. If its count
+    cannot be read, `count` is `None`."""
 
     def __init__(self, octets: bytes, begin: int, reference: int) -> None:
         self.begin, self.marker = begin, octets[begin]
-        self.kind, self.count, self.start = self.marker >> 4, self.marker & 15, begin + 1
+        self.kind, self.start = self.marker >> 4, begin + 1
+        self.count: int | None = self.marker & 15
         size = 0
         if self.kind in COUNTED:
             if self.count == 15:
@@ -45,20 +55,25 @@ class Object:
         elif self.kind in (1, 2, 3) and self.is_known():
             size = 1 << (self.marker & 15)
         elif self.kind == 8:
-            size = self.count + 1
+            size = (self.marker & 15) + 1
         self.end = self.start + size
 
     def read_count(self, octets: bytes) -> None:
         """Reads the count that follows the marker."""
-        marker = octets[self.start:self.start + 1]
+        marker = octets[self.start : self.start + 1]
         width = 1 << (marker[0] & 15) if marker and 0x10 <= marker[0] <= 0x14 else 0
-        digits = octets[self.start + 1:self.start + 1 + width]
+        digits = octets[self.start + 1 : self.start + 1 + width]
         self.count = number_of(digits) if width and len(digits) == width else None
         self.start += 1 + width
 
     def is_known(self) -> bool:
         """Returns whether the format has the marker."""
-        return self.marker in NAMES or 0x10 <= self.marker <= 0x14 or self.kind in COUNTED or self.kind == 8
+        return (
+            self.marker in NAMES
+            or 0x10 <= self.marker <= 0x14
+            or self.kind in COUNTED
+            or self.kind == 8
+        )
 
     def words(self) -> str:
         """Returns what the marker says, in words."""
@@ -70,47 +85,63 @@ class Object:
                 return f"{what} {unit}s, whose count cannot be read"
             return f"{what} {self.count} {unit}" + ("" if self.count == 1 else "s")
         if self.kind == 1:
-            return f"an integer of {self.end - self.start} byte" + ("" if self.marker == 0x10 else "s")
-        return NAMES.get(self.marker) or f"a UID of {self.end - self.start} byte" + ("" if self.count == 0 else "s")
+            return f"an integer of {self.end - self.start} byte" + (
+                "" if self.marker == 0x10 else "s"
+            )
+        return NAMES.get(self.marker) or f"a UID of {self.end - self.start} byte" + (
+            "" if self.count == 0 else "s"
+        )
 
 
 class Binary:
-    """A binary property list. Raises `Refused` if its trailer does not say where its objects are."""
+    """A binary property list. Raises `Refused` if its trailer does not say
+    where its objects are."""
 
     def __init__(self, octets: bytes) -> None:
         self.octets, trailer = octets, octets[-32:]
         if len(octets) < 8 + 32:
             raise tools.Refused(f"has {len(octets)} bytes, too few for objects")
         self.offset_width, self.width = trailer[6], trailer[7]
-        self.count, self.top, self.table = (number_of(trailer[at:at + 8]) for at in (8, 16, 24))
+        self.count, self.top, self.table = (number_of(trailer[at : at + 8]) for at in (8, 16, 24))
         if not (1 <= self.offset_width <= 8 and 1 <= self.width <= 8):
-            raise tools.Refused("its trailer has a width that is not from 1 to 8, so no object is found")
+            raise tools.Refused(
+                "its trailer has a width that is not from 1 to 8, so no object is found"
+            )
 
     def begin(self, number: int) -> int | None:
         """Returns where an object begins, or `None` if the offset table does not say."""
         at = self.table + number * self.offset_width
         if number >= self.count or at + self.offset_width > len(self.octets) - 32:
             return None
-        return number_of(self.octets[at:at + self.offset_width])
+        return number_of(self.octets[at : at + self.offset_width])
 
     def object(self, number: int) -> Object | None:
-        """Returns an object, or `None` if there is none of this number or it begins past the end."""
+        """Returns an object, or `None` if there is none of this number or it
+        begins past the end."""
         begin = self.begin(number)
-        return None if begin is None or begin >= len(self.octets) else Object(self.octets, begin, self.width)
+        return (
+            None
+            if begin is None or begin >= len(self.octets)
+            else Object(self.octets, begin, self.width)
+        )
 
     def references(self, found: Object) -> list[int]:
-        """Returns the numbers in a container, of a dictionary the keys first, as far as the file has them."""
+        """Returns the numbers in a container, of a dictionary the keys first, as far as
+        the file has them."""
         if found.kind not in CONTAINERS or found.count is None:
             return []
-        octets = self.octets[found.start:found.end]
+        octets = self.octets[found.start : found.end]
         many = len(octets) // self.width
         if self.width in FORMS:
             return list(struct.unpack_from(f">{many}{FORMS[self.width]}", octets))
-        return [number_of(octets[at:at + self.width]) for at in range(0, many * self.width, self.width)]
+        return [
+            number_of(octets[at : at + self.width])
+            for at in range(0, many * self.width, self.width)
+        ]
 
     def parents(self, wanted: int) -> dict[int, tuple[int, int]] | None:
-        """Returns for each object that was reached from the top its container, and its place there, until `wanted` is
-        reached. Returns `None` if that takes too many references."""
+        """Returns for each object that was reached from the top its container, and its place there,
+        until `wanted` is reached. Returns `None` if that takes too many references."""
         found: dict[int, tuple[int, int]] = {self.top: (-1, -1)}
         begins = set()  # Objects that share their bytes have the same references.
         queue, many = deque([self.top]), 0
@@ -156,18 +187,19 @@ class Binary:
         return self.key_step(key, pair) + (" (the key)" if place < holder.count else "")
 
     def key_step(self, key: Object | None, pair: int) -> str:
-        """Returns the step to the value of a key: its name, or the number of the pair if it has none."""
+        """Returns the step to the value of a key: its name, or the number of the
+        pair if it has none."""
         if key is None or key.kind not in (0x5, 0x6) or key.count is None:
             return f"{{{pair}}}"
-        name = self.octets[key.start:min(key.end, key.start + 4 * LONGEST)]
+        name = self.octets[key.start : min(key.end, key.start + 4 * LONGEST)]
         text = name.decode("latin-1") if key.kind == 0x5 else name.decode("utf-16-be", "replace")
         text = text if len(text) <= LONGEST else text[:LONGEST] + ".."
         return f".{text}" if text.isidentifier() else f"[{json.dumps(text, ensure_ascii=False)}]"
 
 
 def lines(octets: bytes, number: int) -> tuple[str, str]:
-    """Returns where an object begins with what its marker says, and a path to it. Raises `Refused` if the file does not
-    say where it begins."""
+    """Returns where an object begins with what its marker says, and a path to it. Raises `Refused`
+    if the file does not say where it begins."""
     binary = Binary(octets)
     begin = binary.begin(number)
     if begin is None:

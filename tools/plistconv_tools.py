@@ -1,7 +1,8 @@
 """What the plistconv commands share: arguments, input, the program, messages and exit statuses.
 
-The commands read their files and pass the bytes to the program on its standard input, so names may be anything that
-the system allows. No command makes a temporary file, except beside a file that it replaces.
+The commands read their files and pass the bytes to the program on its standard input, so
+names may be anything that the system allows. No command makes a temporary file, except beside
+a file that it replaces.
 """
 from __future__ import annotations
 
@@ -102,7 +103,8 @@ class Version(argparse.Action):
 
 
 class Parser(argparse.ArgumentParser):
-    """An argument parser whose help is the docstring of the command, and that names unknown options."""
+    """An argument parser whose help is the docstring of the command, and that
+    names unknown options."""
 
     def __init__(self, usage: str) -> None:
         self.options: set[str] = set()
@@ -122,7 +124,7 @@ class Parser(argparse.ArgumentParser):
     def error(self, message: str) -> NoReturn:
         """Ends the command with a usage error, which is an unknown option if there is one."""
         words = sys.argv[1:]
-        words = words[:words.index("--")] if "--" in words else words
+        words = words[: words.index("--")] if "--" in words else words
         for word in words:
             known = word.partition("=")[0] in self.options or word[:2] in self.options
             if word.startswith("-") and word != "-" and not known:
@@ -130,7 +132,8 @@ class Parser(argparse.ArgumentParser):
         super().error(message)
 
     def read_input_once(self, names: list[str]) -> None:
-        """Ends the command with a usage error if several names are those of standard input, which is read once."""
+        """Ends the command with a usage error if several names are those of standard input,
+        which is read once."""
         if sum(name in STANDARD_INPUT for name in names) > 1:
             self.error("standard input is named twice")
 
@@ -156,7 +159,8 @@ def write(octets: bytes) -> None:
 
 
 def give_up_output(fault: OSError) -> NoReturn:
-    """Ends the command because standard output cannot be written: by SIGPIPE if nobody reads the pipe."""
+    """Ends the command because standard output cannot be written: by SIGPIPE if
+    nobody reads the pipe."""
     if isinstance(fault, BrokenPipeError):
         sys.exit(128 + signal.SIGPIPE)
     raise Trouble(f"standard output cannot be written: {reason(fault)}")
@@ -166,13 +170,13 @@ def write_all(file: int, octets: bytes) -> None:
     """Writes all of the bytes to an open file. Raises `OSError`."""
     rest = memoryview(octets)
     while rest:
-        rest = rest[os.write(file, rest):]
+        rest = rest[os.write(file, rest) :]
 
 
 @lru_cache(maxsize=None)
 def program() -> str:
-    """Returns the path of the program: PLISTCONV, or that beside the command, or that of the same checkout or
-    installation, or that on the path."""
+    """Returns the path of the program: PLISTCONV, or that beside the command, or that of the same
+    checkout or installation, or that on the path."""
     named = os.environ.get("PLISTCONV")
     for place in [named] if named else [*own_places(), "plistconv"]:
         found = shutil.which(place)
@@ -182,7 +186,8 @@ def program() -> str:
 
 
 def own_places() -> list[str]:
-    """Returns the paths that the program has beside the command, and in the same checkout or installation."""
+    """Returns the paths that the program has beside the command, and in the same
+    checkout or installation."""
     places = [os.path.join(os.path.dirname(os.path.abspath(sys.argv[0])), "plistconv")]
     folder = os.path.dirname(os.path.realpath(__file__))
     if os.path.isfile(os.path.join(folder, "..", "crates.txt")):
@@ -193,8 +198,8 @@ def own_places() -> list[str]:
 
 
 def ask(arguments: list[str], octets: bytes, limit: int = sys.maxsize) -> tuple[int, bytes]:
-    """Runs the program with the bytes as input and returns its status and output. Raises `Refused` if the program
-    refuses the input, or if it prints more than `limit` bytes and is ended."""
+    """Runs the program with the bytes as input and returns its status and output. Raises `Refused`
+    if the program refuses the input, or if it prints more than `limit` bytes and is ended."""
     status, output = run_over([program(), *arguments], octets, limit)
     if len(output) > limit:
         raise Refused(f"prints more than {limit} bytes, the limit (PLISTCONV_PRINT_LIMIT)")
@@ -212,14 +217,19 @@ def answer(status: int, output: bytes, has_xml: bool = False) -> tuple[int, byte
     raise RefusedXml(f"{line} (XML)") if has_xml else Refused(line)
 
 
-def run_over(command: list[str], octets: bytes, limit: int = sys.maxsize, second: bytes = b"") -> tuple[int, bytes]:
-    """Runs a program with the bytes as input, and returns its status and output. If the last word of the command is
-    `SECOND`, it becomes the path of a pipe with other bytes. Ends the program if its output exceeds `limit` bytes."""
+def run_over(
+    command: list[str], octets: bytes, limit: int = sys.maxsize, second: bytes = b""
+) -> tuple[int, bytes]:
+    """Runs a program with the bytes as input, and returns its status and output. If the last word
+    of the command is `SECOND`, it becomes the path of a pipe with other bytes. Ends the program if
+    its output exceeds `limit` bytes."""
     pipes = os.pipe() if command[-1] == SECOND else ()
     if pipes:
         command = [*command[:-1], f"/dev/fd/{pipes[0]}"]
     try:
-        process = subprocess.Popen(command, stdin=subprocess.PIPE, stdout=subprocess.PIPE, pass_fds=pipes[:1])
+        process = subprocess.Popen(
+            command, stdin=subprocess.PIPE, stdout=subprocess.PIPE, pass_fds=pipes[:1]
+        )
     except OSError as fault:
         raise Trouble(f"{shown(command[0])} cannot be run: {reason(fault)}") from None
     with process:
@@ -228,11 +238,15 @@ def run_over(command: list[str], octets: bytes, limit: int = sys.maxsize, second
             feeders = [threading.Thread(target=feed, args=(process.stdin, octets))]
             if pipes:
                 os.close(pipes[0])
-                feeders.append(threading.Thread(target=feed, args=(os.fdopen(pipes[1], "wb"), second)))
+                feeders.append(
+                    threading.Thread(target=feed, args=(os.fdopen(pipes[1], "wb"), second))
+                )
             for feeder in feeders:
                 feeder.start()
             output = read_up_to(process.stdout, limit)
-        except BaseException:  # A signal: a program that does not read would keep the pipe from being closed.
+        except (
+            BaseException
+        ):  # A signal: a program that does not read would keep the pipe from being closed.
             process.kill()
             raise
         if len(output) > limit:
@@ -254,7 +268,8 @@ def read_up_to(pipe: IO[bytes], limit: int) -> bytes:
 
 
 def feed(pipe: IO[bytes], octets: bytes) -> None:
-    """Writes the bytes to a pipe and closes it. The reader may end earlier, or the pipe be closed at a signal."""
+    """Writes the bytes to a pipe and closes it. The reader may end earlier, or the pipe be
+    closed at a signal."""
     try:
         with pipe:
             pipe.write(octets)
@@ -281,7 +296,8 @@ def printed(octets: bytes) -> bytes:
 
 
 def print_begins(octets: bytes) -> bytes:
-    """Returns the first bytes of the printed text of a property list, however long it is. Raises `Refused`."""
+    """Returns the first bytes of the printed text of a property list, however long it is.
+    Raises `Refused`."""
     most = 1 << 10
     status, output = run_over([program(), "print", "/dev/stdin"], octets, most)
     return output[:most] if len(output) > most else answer(status, output)[1]
@@ -298,10 +314,11 @@ def without_xml(octets: bytes) -> bytes:
 
 
 def is_xml(octets: bytes) -> bool:
-    """Returns whether the bytes begin like XML, in any encoding, possibly after whitespace or a comment."""
+    """Returns whether the bytes begin like XML, in any encoding, possibly after
+    whitespace or a comment."""
     start = octets[:4096].replace(b"\0", b"")  # UTF-16 and UTF-32 without their zeros.
     for mark in (b"\xef\xbb\xbf", b"\xfe\xff", b"\xff\xfe"):
-        start = start[len(mark):] if start.startswith(mark) else start
+        start = start[len(mark) :] if start.startswith(mark) else start
     return start.lstrip().startswith((b"<?", b"<!", b"<plist"))
 
 
@@ -321,7 +338,8 @@ def end(number: int, _frame: object) -> NoReturn:
 
 
 def prepare() -> None:
-    """Opens standard files that are closed, so that no other file gets their numbers, and handles signals."""
+    """Opens standard files that are closed, so that no other file gets their numbers,
+    and handles signals."""
     for number in (0, 1, 2):
         try:
             os.fstat(number)
@@ -334,7 +352,7 @@ def prepare() -> None:
 
 def close_output() -> None:
     """Flushes and closes standard output, or raises `Trouble`."""
-    output, sys.stdout = sys.stdout, None
+    output, sys.stdout = sys.stdout, None  # type: ignore[assignment]
     try:
         if output is not None:
             output.flush()
@@ -348,7 +366,7 @@ def run(main: Callable[[], int]) -> NoReturn:
     try:
         prepare()
         try:
-            status = main()
+            status: str | int | None = main()
         except SystemExit as ended:  # Raised by the argument parser, or at a signal.
             status = ended.code
             if status == 0:

@@ -1,7 +1,9 @@
-"""Reads XML property lists with Python's plistlib, and refuses documents that plistlib would read incorrectly.
+"""Reads XML property lists with Python's plistlib, and refuses documents that plistlib
+would read incorrectly.
 
-plistlib ignores unknown elements, text between values, invalid base64, undeclared entities and every top value but the
-last. So the document is checked against the definition of property lists first.
+plistlib ignores unknown elements, text between values, invalid base64, undeclared entities
+and every top value but the last. So the document is checked against the definition of
+property lists first.
 """
 from __future__ import annotations
 
@@ -16,7 +18,8 @@ LEAVES = {
     "key": re.compile(r"(?s).*"),
     "integer": re.compile(r"0[xX][0-9a-fA-F]+|\s*[+-]?[0-9]+\s*", re.ASCII),
     "real": re.compile(
-        r"\s*[+-]?(?:(?:[0-9]+\.?[0-9]*|\.[0-9]+)(?:e[+-]?[0-9]+)?|inf(?:inity)?|nan)\s*", re.ASCII | re.IGNORECASE
+        r"\s*[+-]?(?:(?:[0-9]+\.?[0-9]*|\.[0-9]+)(?:e[+-]?[0-9]+)?|inf(?:inity)?|nan)\s*",
+        re.ASCII | re.IGNORECASE,
     ),
     "date": re.compile(r"[0-9]{4}-[0-9]{2}-[0-9]{2}T[0-9]{2}:[0-9]{2}:[0-9]{2}Z"),
     "data": re.compile(r"(?:[A-Za-z0-9+/]{4})*(?:[A-Za-z0-9+/]{2}==|[A-Za-z0-9+/]{3}=)?"),
@@ -113,16 +116,21 @@ def check(octets: bytes) -> None:
 
 
 def are_same(first: object, second: object) -> bool:
-    """Returns whether two values are identical, including the bits of reals and the order of keys."""
+    """Returns whether two values are identical, including the bits of reals and
+    the order of keys."""
     rest = [(first, second)]
     while rest:
         one, other = rest.pop()
         if type(one) is not type(other):
             return False
-        if isinstance(one, (dict, list)):
-            if len(one) != len(other) or (isinstance(one, dict) and list(one) != list(other)):
+        if isinstance(one, dict) and isinstance(other, dict):
+            if list(one) != list(other):
                 return False
-            rest.extend(zip(one.values(), other.values()) if isinstance(one, dict) else zip(one, other))
+            rest.extend(zip(one.values(), other.values()))
+        elif isinstance(one, list) and isinstance(other, list):
+            if len(one) != len(other):
+                return False
+            rest.extend(zip(one, other))
         elif repr(one) != repr(other):
             return False
     return True
@@ -131,7 +139,9 @@ def are_same(first: object, second: object) -> bool:
 def binary(octets: bytes) -> bytes:
     """Returns a binary file with the value of an XML property list. Raises `Fault`."""
     check(octets)
-    sys.setrecursionlimit(max(sys.getrecursionlimit(), 8 * LEVELS))  # plistlib recurses for each level.
+    sys.setrecursionlimit(
+        max(sys.getrecursionlimit(), 8 * LEVELS)
+    )  # plistlib recurses for each level.
     try:
         value = plistlib.loads(octets, fmt=plistlib.FMT_XML, dict_type=Table)
         made = plistlib.dumps(value, fmt=plistlib.FMT_BINARY, sort_keys=False)

@@ -24,7 +24,13 @@ def acl(*entries) -> bytes:
     return struct.pack("<I", 2) + b"".join(struct.pack("<HHI", *entry) for entry in entries)
 
 
-OWNED_BY_OTHERS = acl((1, 6, 2**32 - 1), (2, 4, OTHER_USER), (4, 4, 2**32 - 1), (16, 4, 2**32 - 1), (32, 0, 2**32 - 1))
+OWNED_BY_OTHERS = acl(
+    (1, 6, 2**32 - 1),
+    (2, 4, OTHER_USER),
+    (4, 4, 2**32 - 1),
+    (16, 4, 2**32 - 1),
+    (32, 0, 2**32 - 1),
+)
 
 
 class Canonicalise(Case):
@@ -32,7 +38,7 @@ class Canonicalise(Case):
 
     def changing(self, line: str) -> dict:
         """Returns an environment in which the program does what the line says before it answers."""
-        script = f"#!/bin/sh\n{line}\nexec {shlex.quote(PROGRAM)} \"$@\"\n"
+        script = f'#!/bin/sh\n{line}\nexec {shlex.quote(PROGRAM)} "$@"\n'
         self.put("bin/program", script.encode()).chmod(0o755)
         return {**self.environment, "PLISTCONV": str(self.folder / "bin" / "program")}
 
@@ -68,18 +74,26 @@ class Canonicalise(Case):
         path = self.owned("a", USER, OTHER_USER, 0o4750)
         self.prints(b"", "canonicalise", "a")
         after = path.stat()
-        self.assertEqual((after.st_uid, after.st_gid, stat.S_IMODE(after.st_mode)), (USER, OTHER_USER, 0o4750))
+        self.assertEqual(
+            (after.st_uid, after.st_gid, stat.S_IMODE(after.st_mode)), (USER, OTHER_USER, 0o4750)
+        )
 
     def test_file_whose_owner_or_group_cannot_be_kept_is_left_unless_forced(self):
-        no_owner = "old = os.fchown\ndef fchown(file, owner, group):\n    if owner != -1: raise PermissionError(1, 'no')\n" \
-                   "    old(file, owner, group)\nos.fchown = fchown"
+        no_owner = (
+            "old = os.fchown\ndef fchown(file, owner, group):\n    if owner != -1: raise PermissionError(1, 'no')\n"
+            "    old(file, owner, group)\nos.fchown = fchown"
+        )
         none = "def fchown(*_): raise PermissionError(1, 'no')\nos.fchown = fchown"
-        for lines, lost, owners in ((no_owner, "owner", (os.geteuid(), OTHER_USER)),
-                                    (none, "owner and group", (os.geteuid(), os.getegid()))):
+        for lines, lost, owners in (
+            (no_owner, "owner", (os.geteuid(), OTHER_USER)),
+            (none, "owner and group", (os.geteuid(), os.getegid())),
+        ):
             path = self.owned("a", USER, OTHER_USER, 0o6755)
             before = path.stat().st_ino, path.stat().st_ctime_ns
             said = self.patched(lines, "a", status=1)
-            self.assertIn(f"a: its {lost} cannot be kept (--force replaces it); left as it is".encode(), said)
+            self.assertIn(
+                f"a: its {lost} cannot be kept (--force replaces it); left as it is".encode(), said
+            )
             self.assertEqual((path.stat().st_ino, path.stat().st_ctime_ns), before)
             self.assertEqual((path.read_bytes(), self.left()), (TEXT, ["a"]))
             said = self.patched(lines, "--force", "a")
@@ -87,7 +101,9 @@ class Canonicalise(Case):
                 self.assertIn(f"a: replaced without its {what}\n".encode(), said)
             after = path.stat()
             self.assertEqual((after.st_uid, after.st_gid), owners)
-            self.assertEqual((stat.S_IMODE(after.st_mode), path.read_bytes()), (0o755, self.canonical(TEXT)))
+            self.assertEqual(
+                (stat.S_IMODE(after.st_mode), path.read_bytes()), (0o755, self.canonical(TEXT))
+            )
         # The owner of a file system without owners is always the same.
         self.put("b", TEXT)
         self.assertEqual(self.patched(none, "b"), b"")
@@ -109,9 +125,13 @@ class Canonicalise(Case):
         self.prints(b"", "canonicalise", "a")
         self.assertEqual(self.attributes(path), before)
         path.write_bytes(TEXT)
-        said = self.patched("def fails(*_): raise PermissionError(1, 'no')\nos.setxattr = fails", "a")
+        said = self.patched(
+            "def fails(*_): raise PermissionError(1, 'no')\nos.setxattr = fails", "a"
+        )
         for name in ("comment", "empty"):
-            self.assertIn(f"a: replaced without its extended attribute user.{name}\n".encode(), said)
+            self.assertIn(
+                f"a: replaced without its extended attribute user.{name}\n".encode(), said
+            )
         self.assertEqual((path.read_bytes(), self.attributes(path)), (self.canonical(TEXT), {}))
 
     def test_access_control_lists_are_kept_and_those_of_the_folder_not_taken(self):
@@ -128,8 +148,14 @@ class Canonicalise(Case):
 
     def test_file_that_changes_meanwhile_is_left(self):
         path = self.put("a", TEXT)
-        for line in (f"printf '{{b=a;a=c;}}\\n' > a", "rm a; echo '(new)' > a", "chmod 600 a; chmod 640 a", "rm a",
-                     "rm a; ln -s b a", "mv a c; mkdir a"):
+        for line in (
+            "printf '{b=a;a=c;}\\n' > a",
+            "rm a; echo '(new)' > a",
+            "chmod 600 a; chmod 640 a",
+            "rm a",
+            "rm a; ln -s b a",
+            "mv a c; mkdir a",
+        ):
             self.put("a", TEXT)
             self.put("b", TEXT)
             self.refuses("; left as it is", "canonicalise", "a", env=self.changing(line))
@@ -138,21 +164,41 @@ class Canonicalise(Case):
             self.assertFalse([name for name in self.left() if name.startswith(".")])
             shutil.rmtree(str(path)) if path.is_dir() else path.exists() and path.unlink()
         self.put("a", TEXT)
-        self.refuses("a: changed meanwhile; left as it is", "canonicalise", "a", env=self.changing("echo >> a"))
+        self.refuses(
+            "a: changed meanwhile; left as it is",
+            "canonicalise",
+            "a",
+            env=self.changing("echo >> a"),
+        )
         self.assertEqual(path.read_bytes().rstrip(b"\n") + b"\n", TEXT)
 
     def test_what_killed_commands_left_is_removed_after_a_day(self):
         day = 24 * 60 * 60
-        for name, age in ((".plistconv-abcd_123", day + 60), (".plistconv-abcd_124", day - 60), (".plistconv-x", 9 * day),
-                          (".plistconv-abcd_1234", 9 * day), ("x.plistconv-abcd_123", 9 * day)):
+        for name, age in (
+            (".plistconv-abcd_123", day + 60),
+            (".plistconv-abcd_124", day - 60),
+            (".plistconv-x", 9 * day),
+            (".plistconv-abcd_1234", 9 * day),
+            ("x.plistconv-abcd_123", 9 * day),
+        ):
             path = self.put(name, b"half")
             os.utime(str(path), (time.time() - age, time.time() - age))
         self.put(".plistconv-folder__/a", self.canonical(TEXT))
         os.utime(str(self.folder / ".plistconv-folder__"), (0, 0))
         self.put("a", self.canonical(TEXT))
         self.prints(b"", "canonicalise", "a")
-        self.assertEqual(self.left(), [".plistconv-abcd_1234", ".plistconv-abcd_124", ".plistconv-folder__",
-                                       ".plistconv-folder__/a", ".plistconv-x", "a", "x.plistconv-abcd_123"])
+        self.assertEqual(
+            self.left(),
+            [
+                ".plistconv-abcd_1234",
+                ".plistconv-abcd_124",
+                ".plistconv-folder__",
+                ".plistconv-folder__/a",
+                ".plistconv-x",
+                "a",
+                "x.plistconv-abcd_123",
+            ],
+        )
 
     def test_canonical_files_are_not_touched(self):
         before = self.put("a", self.canonical(TEXT)).stat()
@@ -161,17 +207,31 @@ class Canonicalise(Case):
         self.assertEqual((after.st_ino, after.st_mtime_ns), (before.st_ino, before.st_mtime_ns))
 
     def test_files_of_one_word_or_of_none_are_left(self):
-        comments = b"// { all }\n", b"/* { */ /**/", "// é\u2028 // {".encode(), "/* é { */".encode("utf-16")
+        comments = (
+            b"// { all }\n",
+            b"/* { */ /**/",
+            "// é\u2028 // {".encode(),
+            "/* é { */".encode("utf-16"),
+        )
         for octets in (b"", b"\n", b"word", b"0123abc\n", b'"a b"', b"<00>", *comments):
             path = self.put("a", octets)
             self.refuses("one word or of none", "canonicalise", "a")
             self.assertEqual(path.read_bytes(), octets)
             self.prints(b"", "canonicalise", "--any", "a")
             self.call([PROGRAM, "check", "a"])
-        for octets in (b"{}", b"()", b"/* */ {/**/}", b"a=b;", "{}".encode("utf-16"), b"(" + b"word," * 9000 + b")"):
+        for octets in (
+            b"{}",
+            b"()",
+            b"/* */ {/**/}",
+            b"a=b;",
+            "{}".encode("utf-16"),
+            b"(" + b"word," * 9000 + b")",
+        ):
             self.put("a", octets)
             # However long it prints.
-            self.prints(b"", "canonicalise", "a", env={**self.environment, "PLISTCONV_PRINT_LIMIT": "1"})
+            self.prints(
+                b"", "canonicalise", "a", env={**self.environment, "PLISTCONV_PRINT_LIMIT": "1"}
+            )
             self.call([PROGRAM, "check", "a"])
 
     def test_what_is_refused_is_left_and_the_others_are_made(self):
@@ -179,17 +239,30 @@ class Canonicalise(Case):
             self.put(name, octets)
         run = self.tool("canonicalise", "archive", "twice", "xml", "a", status=1)
         self.assertEqual(run.stderr.count(b"left as it is"), 3)
-        for name, octets in (("archive", ARCHIVE), ("twice", TWICE), ("xml", XML), ("a", self.canonical(TEXT))):
+        for name, octets in (
+            ("archive", ARCHIVE),
+            ("twice", TWICE),
+            ("xml", XML),
+            ("a", self.canonical(TEXT)),
+        ):
             self.assertEqual((self.folder / name).read_bytes(), octets)
 
     def test_links_are_left_unless_they_are_followed(self):
         path = self.put("folder/a", TEXT)
         path.chmod(0o600)
-        for name, target in (("link", "folder/a"), ("second", "link"), ("dangling", "none"), ("way", "folder")):
+        for name, target in (
+            ("link", "folder/a"),
+            ("second", "link"),
+            ("dangling", "none"),
+            ("way", "folder"),
+        ):
             os.symlink(target, str(self.folder / name))
         for name in ("link", "second"):
-            self.refuses(f"{name}: is a symbolic link (--follow replaces the file that it points to); left as it is",
-                         "canonicalise", name)
+            self.refuses(
+                f"{name}: is a symbolic link (--follow replaces the file that it points to); left as it is",
+                "canonicalise",
+                name,
+            )
         self.assertEqual(path.read_bytes(), TEXT)
         self.prints(b"", "canonicalise", "--follow", "second")
         self.assertEqual(os.readlink(str(self.folder / "second")), "link")
@@ -234,7 +307,9 @@ class Canonicalise(Case):
         out.chmod(0o604)
         self.prints(b"", "canonicalise", "-o", "out", "--from-xml", "-", input=XML)
         self.assertEqual(stat.S_IMODE(out.stat().st_mode), 0o604)
-        self.assertEqual(out.read_bytes(), self.tool("canonicalise", "--from-xml", "-", input=XML).stdout)
+        self.assertEqual(
+            out.read_bytes(), self.tool("canonicalise", "--from-xml", "-", input=XML).stdout
+        )
         self.prints(self.canonical(OTHER), "canonicalise", "-o", "-", "/dev/stdin", input=OTHER)
         self.prints(b"", "canonicalise", "-o", "a", "--", "a")
         self.assertEqual(before.read_bytes(), self.canonical(TEXT))
@@ -247,16 +322,38 @@ class Canonicalise(Case):
         for name, octets in (("a", TEXT), ("twice", TWICE), ("word", b"word")):
             self.put(name, octets)
         left = self.left()
-        self.refuses("twice: refused 14 DuplicateKey at octet 3; not converted", "canonicalise", "-o", "out", "twice")
+        self.refuses(
+            "twice: refused 14 DuplicateKey at octet 3; not converted",
+            "canonicalise",
+            "-o",
+            "out",
+            "twice",
+        )
         self.refuses("word: a text of one word", "canonicalise", "-o", "out", "word")
-        self.refuses("none: No such file or directory; not converted", "canonicalise", "-o", "out", "none")
+        self.refuses(
+            "none: No such file or directory; not converted", "canonicalise", "-o", "out", "none"
+        )
         for name in (".", "none/out", "dangling", "link", ""):
             self.refuses(f"{name}: ", "canonicalise", "-o", name, "a")
         self.refuses("with -o there is one FILE", "canonicalise", "-o", "out", "a", "a", status=2)
         limit = lambda: resource.setrlimit(resource.RLIMIT_FSIZE, (16, 16))  # noqa: E731
         for name in ("out", "new"):
-            self.refuses(f"{name}: File too large; not written", "canonicalise", "-o", name, "a", preexec_fn=limit)
-        self.refuses("out: changed meanwhile; not written", "canonicalise", "-o", "out", "a", env=self.changing("touch out"))
+            self.refuses(
+                f"{name}: File too large; not written",
+                "canonicalise",
+                "-o",
+                name,
+                "a",
+                preexec_fn=limit,
+            )
+        self.refuses(
+            "out: changed meanwhile; not written",
+            "canonicalise",
+            "-o",
+            "out",
+            "a",
+            env=self.changing("touch out"),
+        )
         shutil.rmtree(str(self.folder / "bin"))
         self.assertEqual((out.read_bytes(), self.left()), (b"old", left))
         self.prints(b"", "canonicalise", "-o", "link", "--follow", "a")
@@ -271,11 +368,16 @@ class Canonicalise(Case):
     def test_signal_leaves_the_file_as_it_was_and_nothing_beside_it(self):
         path = self.put("a", TEXT)
         for name, status in (("SIGTERM", 143), ("SIGINT", 130), ("SIGHUP", 129)):
-            said = self.patched(f"import signal\nos.fsync = lambda file: os.kill(os.getpid(), signal.{name})", "a",
-                                status=status)
+            said = self.patched(
+                f"import signal\nos.fsync = lambda file: os.kill(os.getpid(), signal.{name})",
+                "a",
+                status=status,
+            )
             self.assertEqual((said, path.read_bytes(), self.left()), (b"", TEXT, ["a"]))
-        renamed = "import signal\nold = os.replace\ndef replace(*names):\n    old(*names)\n" \
-                  "    os.kill(os.getpid(), signal.SIGTERM)\nos.replace = replace"
+        renamed = (
+            "import signal\nold = os.replace\ndef replace(*names):\n    old(*names)\n"
+            "    os.kill(os.getpid(), signal.SIGTERM)\nos.replace = replace"
+        )
         self.assertEqual(self.patched(renamed, "a", status=143), b"")
         self.assertEqual((path.read_bytes(), self.left()), (self.canonical(TEXT), ["a"]))
 

@@ -15,8 +15,17 @@ class Digest(Case):
     """Digests as sha256sum prints them."""
 
     def test_equal_values_have_one_digest_as_sha256sum_prints_it(self):
-        names = [self.put(name, octets).name for name, octets in
-                 (("a", TEXT), ("b c", SAME), ("n\nl", TEXT), ("back\\slash", TEXT), ("r\rt", TEXT), ("é", SAME))]
+        names = [
+            self.put(name, octets).name
+            for name, octets in (
+                ("a", TEXT),
+                ("b c", SAME),
+                ("n\nl", TEXT),
+                ("back\\slash", TEXT),
+                ("r\rt", TEXT),
+                ("é", SAME),
+            )
+        ]
         printed = self.tool("digest", *names).stdout
         if shutil.which("sha256sum") is None:
             self.skipTest("skipped: there is no sha256sum")
@@ -24,26 +33,49 @@ class Digest(Case):
             self.put(name, self.canonical(TEXT))
         wanted = self.call(["sha256sum", *names]).stdout
         if b"\r" in wanted:  # Older versions do not escape it.
-            wanted, printed = (re.sub(rb"(?m)^.*r(\r|\\r)t\n", b"", lines) for lines in (wanted, printed))
+            wanted, printed = (
+                re.sub(rb"(?m)^.*r(\r|\\r)t\n", b"", lines) for lines in (wanted, printed)
+            )
         self.assertEqual(printed, wanted)
 
     def test_what_is_refused_has_no_digest_and_the_others_have(self):
         self.put("a", TEXT)
-        for name, octets, why in (("twice", TWICE, "refused 14 DuplicateKey at octet 3"), ("xml", XML, "refused 21"),
-                                  ("archive", ARCHIVE, "refused 9 UidObject at object 2")):
+        for name, octets, why in (
+            ("twice", TWICE, "refused 14 DuplicateKey at octet 3"),
+            ("xml", XML, "refused 21"),
+            ("archive", ARCHIVE, "refused 9 UidObject at object 2"),
+        ):
             self.put(name, octets)
             digest = self.tool("digest", "a").stdout
-            self.refuses(f"plistconv-digest: {name}: {why}", "digest", name, "none", "a", printed=digest)
+            self.refuses(
+                f"plistconv-digest: {name}: {why}", "digest", name, "none", "a", printed=digest
+            )
 
     def test_all_lines_tell_files_that_are_refused_apart(self):
         self.put("a", TEXT)
         digest = self.tool("digest", "a").stdout
-        for octets, why in ((TWICE, "refused 14 DuplicateKey at octet 3"), (XML, "refused 21 XmlForm at octet 0 (XML)"),
-                            (XML + b" ", "refused 21 XmlForm at octet 0 (XML)")):
+        for octets, why in (
+            (TWICE, "refused 14 DuplicateKey at octet 3"),
+            (XML, "refused 21 XmlForm at octet 0 (XML)"),
+            (XML + b" ", "refused 21 XmlForm at octet 0 (XML)"),
+        ):
             self.put("b\\", octets)
             line = f"\\{why}; bytes {hashlib.sha256(octets).hexdigest()}  b\\\\\n".encode()
-            self.refuses(f"plistconv-digest: b\\: {why}", "digest", "--all-lines", "b\\", "a", printed=line + digest)
-        self.refuses("none: No such file", "digest", "--all-lines", "none", printed=b"No such file or directory  none\n")
+            self.refuses(
+                f"plistconv-digest: b\\: {why}",
+                "digest",
+                "--all-lines",
+                "b\\",
+                "a",
+                printed=line + digest,
+            )
+        self.refuses(
+            "none: No such file",
+            "digest",
+            "--all-lines",
+            "none",
+            printed=b"No such file or directory  none\n",
+        )
 
     def test_digest_of_xml_is_that_of_its_binary_file(self):
         self.put("x", XML)
@@ -51,15 +83,32 @@ class Digest(Case):
         digest = hashlib.sha256(made).hexdigest().encode()
         self.prints(digest + b"  x\n", "digest", "--from-xml", "x")
         self.prints(digest + b"  -\n", "digest", "--from-xml", "-", input=made)
-        self.refuses("x: refused as XML", "digest", "--from-xml", "x", input=self.put("x", XML[:-9]).read_bytes())
+        self.refuses(
+            "x: refused as XML",
+            "digest",
+            "--from-xml",
+            "x",
+            input=self.put("x", XML[:-9]).read_bytes(),
+        )
 
     def test_xml_is_refused_with_the_way_out_in_every_encoding(self):
         latin = XML.replace(b'"1.0"?', b'"1.0" encoding="ISO-8859-1"?').replace(b">a<", b">\xe9<")
-        for octets in (XML, latin, b"<!-- one -->\n" + XML[22:], b"\n " + XML[22:], XML.decode().encode("utf-16"),
-                       XML.decode().encode("utf-16-le"), b"\xef\xbb\xbf" + XML):
+        for octets in (
+            XML,
+            latin,
+            b"<!-- one -->\n" + XML[22:],
+            b"\n " + XML[22:],
+            XML.decode().encode("utf-16"),
+            XML.decode().encode("utf-16-le"),
+            b"\xef\xbb\xbf" + XML,
+        ):
             self.put("x", octets)
             self.refuses("(XML)", "digest", "x")
-            self.refuses("one of: plistconv-canonicalise --from-xml FILE; plistutil -i IN -f bin -o OUT; on macOS plutil", "digest", "x")
+            self.refuses(
+                "one of: plistconv-canonicalise --from-xml FILE; plistutil -i IN -f bin -o OUT; on macOS plutil",
+                "digest",
+                "x",
+            )
 
     def test_pipes_and_standard_input(self):
         digest = hashlib.sha256(self.canonical(TEXT)).hexdigest().encode()
@@ -71,11 +120,22 @@ class Diff(Case):
     """Unified diffs of prints."""
 
     def test_statuses_are_those_of_diff(self):
-        for name, octets in (("a", TEXT), ("b", SAME), ("c", OTHER), ("twice", TWICE), ("xml", XML)):
+        for name, octets in (
+            ("a", TEXT),
+            ("b", SAME),
+            ("c", OTHER),
+            ("twice", TWICE),
+            ("xml", XML),
+        ):
             self.put(name, octets)
         self.prints(b"", "diff", "a", "b")
-        self.prints(b'--- a\n+++ c\n@@ -1,4 +1,4 @@\n {\n-  "a" => "b"\n+  "a" => "c"\n   "b" => "a"\n }\n',
-                    "diff", "a", "c", status=1)
+        self.prints(
+            b'--- a\n+++ c\n@@ -1,4 +1,4 @@\n {\n-  "a" => "b"\n+  "a" => "c"\n   "b" => "a"\n }\n',
+            "diff",
+            "a",
+            "c",
+            status=1,
+        )
         self.refuses("twice: refused 14 DuplicateKey at octet 3", "diff", "a", "twice", status=2)
         self.refuses("none: No such file", "diff", "none", "a", status=2)
 
@@ -91,7 +151,8 @@ class Diff(Case):
 
     def applied(self, diff: bytes, old: list) -> list:
         """Returns the old lines after a unified diff is applied."""
-        made, at = [], 0
+        made: list[bytes] = []
+        at = 0
         for line in diff.splitlines(keepends=True)[2:]:
             hunk = re.match(rb"@@ -(\d+)(,0)?", line)
             if hunk:
@@ -106,9 +167,16 @@ class Diff(Case):
 
     def test_diff_makes_the_new_print_of_the_old_one(self):
         chance = random.Random(1)
-        values = [(b"", b"x"), (b"x," * 3000, b"x," * 2000 + b"y," * 1000), (b"a,b," * 900, b"b,c," * 900)]
+        values = [
+            (b"", b"x"),
+            (b"x," * 3000, b"x," * 2000 + b"y," * 1000),
+            (b"a,b," * 900, b"b,c," * 900),
+        ]
         for _ in range(6):
-            old = [b"%d,{a=%d;b=x;}," % (chance.randrange(9), chance.randrange(5000)) for _ in range(2000)]
+            old = [
+                b"%d,{a=%d;b=x;}," % (chance.randrange(9), chance.randrange(5000))
+                for _ in range(2000)
+            ]
             new = [line for line in old if chance.random() < 0.99]
             new[7:9] = chance.sample(old, chance.randrange(5))
             values.append((b"".join(old), b"".join(new)))
@@ -123,7 +191,9 @@ class Diff(Case):
     def test_xml_is_compared_through_plistlib(self):
         self.put("x", XML)
         self.put("text", b"{a=2.5;}")
-        self.assertIn(b'-  "a" => 2.5\n+  "a" => "2.5"\n', self.tool("diff", "x", "text", status=1).stdout)
+        self.assertIn(
+            b'-  "a" => 2.5\n+  "a" => "2.5"\n', self.tool("diff", "x", "text", status=1).stdout
+        )
 
 
 if __name__ == "__main__":

@@ -1,4 +1,5 @@
-"""Tests the installation of the hook, plistconv-textconv, and the examples of the page with git and bundles."""
+"""Tests the installation of the hook, plistconv-textconv, and the examples of the page
+with git and bundles."""
 from __future__ import annotations
 
 import os
@@ -29,11 +30,16 @@ class Install(Repository):
         self.assertIn("a.plist: an OpenStep text", self.commit(status=1))
 
     def test_hook_of_a_shell_keeps_its_lines(self):
-        hook = self.put(".git/hooks/pre-commit", b"#!/bin/sh\n# plistconv-staged\necho mine >&2\nexit 0")
+        hook = self.put(
+            ".git/hooks/pre-commit", b"#!/bin/sh\n# plistconv-staged\necho mine >&2\nexit 0"
+        )
         hook.chmod(0o750)
         for _ in range(2):
             self.tool("staged", "--install")
-        self.assertEqual(hook.read_bytes(), b"#!/bin/sh\nplistconv-staged || exit 1\n# plistconv-staged\necho mine >&2\nexit 0")
+        self.assertEqual(
+            hook.read_bytes(),
+            b"#!/bin/sh\nplistconv-staged || exit 1\n# plistconv-staged\necho mine >&2\nexit 0",
+        )
         self.assertEqual(hook.stat().st_mode & 0o777, 0o750)
         self.put("a.plist", TEXT)
         self.git("add", "-A")
@@ -43,12 +49,18 @@ class Install(Repository):
 
     def test_other_hooks_are_left(self):
         hook = self.folder / ".git" / "hooks" / "pre-commit"
-        for octets, mode, why in ((b"#!/usr/bin/env python3\n", 0o755, "is no shell script"), (b"\x7fELF", 0o755, "is no shell"),
-                                  (b"#!/bin/sh\n", 0o644, "cannot be run, so git ignores it"), (b"", 0o755, "is no shell"),
-                                  (b"#!/bin/sh\r\nexit\r\n", 0o755, "is no shell script")):
+        for octets, mode, why in (
+            (b"#!/usr/bin/env python3\n", 0o755, "is no shell script"),
+            (b"\x7fELF", 0o755, "is no shell"),
+            (b"#!/bin/sh\n", 0o644, "cannot be run, so git ignores it"),
+            (b"", 0o755, "is no shell"),
+            (b"#!/bin/sh\r\nexit\r\n", 0o755, "is no shell script"),
+        ):
             self.put(".git/hooks/pre-commit", octets).chmod(mode)
             self.refuses(f".git/hooks/pre-commit: {why}", "staged", "--install")
-            self.refuses("left as it is. Have it call: plistconv-staged || exit 1", "staged", "--install")
+            self.refuses(
+                "left as it is. Have it call: plistconv-staged || exit 1", "staged", "--install"
+            )
             self.assertEqual(hook.read_bytes(), octets)
         hook.unlink()
         os.symlink("../../hook", str(hook))
@@ -69,24 +81,45 @@ class Install(Repository):
             self.tool("staged", "--install", cwd=str(self.folder / folder))
             self.assertTrue(os.access(str(hook), os.X_OK))
             hook.unlink()
-        self.git("-c", "protocol.file.allow=always", "submodule", "add", "-q", str(self.folder), "module")
+        self.git(
+            "-c", "protocol.file.allow=always", "submodule", "add", "-q", str(self.folder), "module"
+        )
         self.tool("staged", "--install", cwd=str(self.folder / "module" / "sub"))
-        self.assertTrue(os.access(str(self.folder / ".git" / "modules" / "module" / "hooks" / "pre-commit"), os.X_OK))
+        self.assertTrue(
+            os.access(
+                str(self.folder / ".git" / "modules" / "module" / "hooks" / "pre-commit"), os.X_OK
+            )
+        )
         self.assertFalse(hook.exists())
         self.git("config", "core.hooksPath", "my hooks")
-        self.prints(b"../my hooks/pre-commit calls plistconv-staged\n", "staged", "--install", cwd=str(self.folder / "sub"))
+        self.prints(
+            b"../my hooks/pre-commit calls plistconv-staged\n",
+            "staged",
+            "--install",
+            cwd=str(self.folder / "sub"),
+        )
         self.put("other tree/a.plist", TEXT)
         self.put("a.plist", TEXT)
         self.git("add", "a.plist")
         self.assertIn("a.plist: an OpenStep", self.commit(status=1))
-        self.refuses("git rev-parse ended with status 128", "staged", "--install", status=2,
-                     env={**self.environment, "GIT_DIR": "/none"})
+        self.refuses(
+            "git rev-parse ended with status 128",
+            "staged",
+            "--install",
+            status=2,
+            env={**self.environment, "GIT_DIR": "/none"},
+        )
 
     def test_file_for_the_framework_names_the_command(self):
         lines = (TOP / ".pre-commit-hooks.yaml").read_text(encoding="utf-8").splitlines()
         pairs = dict(line[2:].split(": ", 1) for line in lines if not line.startswith("#"))
         self.assertTrue(os.access(str(TOP / pairs["entry"]), os.X_OK))
-        wanted = {"id": "plistconv-staged", "language": "script", "pass_filenames": "false", "always_run": "true"}
+        wanted = {
+            "id": "plistconv-staged",
+            "language": "script",
+            "pass_filenames": "false",
+            "always_run": "true",
+        }
         self.assertEqual({key: pairs[key] for key in wanted}, wanted)
 
 
@@ -97,7 +130,10 @@ class Textconv(Repository):
         for octets, why in REFUSED:
             self.put("a", octets)
             run = self.tool("textconv", "a")
-            self.assertRegex(run.stdout.decode(), r"^Binary file: %s[ -~]*; SHA-256 [0-9a-f]{64}\n$" % re.escape(why))
+            self.assertRegex(
+                run.stdout.decode(),
+                r"^Binary file: %s[ -~]*; SHA-256 [0-9a-f]{64}\n$" % re.escape(why),
+            )
             self.assertEqual(run.stderr, b"")
 
     def test_lines_of_the_page_make_git_diff_readable(self):
@@ -109,8 +145,11 @@ class Textconv(Repository):
         self.environment["GIT_CONFIG_GLOBAL"] = str(self.folder / ".git" / "global")
         self.environment["HOME"] = str(self.folder / ".git")
         self.call(["sh", "-ec", lines])
-        files = {"a b.plist": (TEXT, OTHER), "-x.plist": (XML, XML.replace(b"2.5", b"3.5")),
-                 "k.plist": (ARCHIVE, ARCHIVE.replace(b"\x80\x01", b"\x80\x02"))}
+        files = {
+            "a b.plist": (TEXT, OTHER),
+            "-x.plist": (XML, XML.replace(b"2.5", b"3.5")),
+            "k.plist": (ARCHIVE, ARCHIVE.replace(b"\x80\x01", b"\x80\x02")),
+        }
         for number in (0, 1):
             for name, octets in files.items():
                 self.put(name, octets[number])
@@ -130,7 +169,9 @@ class Tree(Repository):
 
     def test_line_of_the_page_makes_a_repository_canonical_and_nothing_else(self):
         page = (TOP / "docs" / "RECIPES.md").read_text(encoding="utf-8")
-        line = re.search(r"(?m)^    (git ls-files -z .*xargs -0 -r plistconv-canonicalise --any --)$", page)[1]
+        line = re.search(
+            r"(?m)^    (git ls-files -z .*xargs -0 -r plistconv-canonicalise --any --)$", page
+        )[1]
         self.call(["sh", "-ec", line])  # There is none.
         self.put("a b.plist", TEXT)
         self.put("-x.plist", TEXT)
@@ -151,7 +192,12 @@ class Tree(Repository):
         for name in ("a b.plist", "-x.plist"):
             self.assertEqual((self.folder / name).read_bytes(), self.canonical(TEXT))
         self.assertEqual((self.folder / "sub" / "b.plist").read_bytes(), self.canonical(b""))
-        for name, octets in (("word.txt", b"word"), ("sub/b.strings", b"a=b;"), ("untracked.plist", TEXT), ("c.plist/d", TEXT)):
+        for name, octets in (
+            ("word.txt", b"word"),
+            ("sub/b.strings", b"a=b;"),
+            ("untracked.plist", TEXT),
+            ("c.plist/d", TEXT),
+        ):
             self.assertEqual((self.folder / name).read_bytes(), octets)
         self.git("fsck", "--strict")
         self.git("rev-parse", "update-Info.plist")
@@ -171,8 +217,13 @@ class Tree(Repository):
         if shutil.which("bash") is None:
             self.skipTest("skipped: there is no bash")
         self.assertEqual(self.call(words).stdout, b"")
-        for old, new in ((b"a=b;", b"a=c;"), (XML, XML.replace(b"2.5", b"3.5")), (TWICE, TWICE + b" "), (XML[:-9], XML[:-8]),
-                         (ARCHIVE, ARCHIVE.replace(b"\x80\x01", b"\x80\x02"))):
+        for old, new in (
+            (b"a=b;", b"a=c;"),
+            (XML, XML.replace(b"2.5", b"3.5")),
+            (TWICE, TWICE + b" "),
+            (XML[:-9], XML[:-8]),
+            (ARCHIVE, ARCHIVE.replace(b"\x80\x01", b"\x80\x02")),
+        ):
             self.put("Old.app/one.plist", old)
             self.put("New.app/one.plist", old)
             self.assertEqual(self.call(words).stdout, b"")

@@ -11,7 +11,11 @@ from testing import COMMANDS, TOP, Case
 def page(name: str) -> str:
     """Returns a page as a reader sees it."""
     text = (TOP / name).read_text(encoding="utf-8")
-    return text.replace("\\-", "-").replace("\\(aq", "'").replace("\\en", "\\n") if name.startswith("man/") else text
+    return (
+        text.replace("\\-", "-").replace("\\(aq", "'").replace("\\en", "\\n")
+        if name.startswith("man/")
+        else text
+    )
 
 
 class Pages(Case):
@@ -19,13 +23,20 @@ class Pages(Case):
 
     def test_lines_for_git_are_the_same_everywhere(self):
         recipes, manual = page("docs/RECIPES.md"), page("man/plistconv-tools.1")
-        lines = [re.search(f"(?m)^    ({start}.*)$", recipes)[1]
-                 for start in ("git config", "echo", "plistconv-staged", "git ls-files")]
+        lines = [
+            re.search(f"(?m)^    ({start}.*)$", recipes)[1]
+            for start in ("git config", "echo", "plistconv-staged", "git ls-files")
+        ]
         self.assertEqual(lines[1], "echo '*.plist -text diff=plist' >> .gitattributes")
         for line in lines:
             self.assertIn(f"\n{line}\n", manual)
         self.assertIn("\n.B *.plist -text diff=plist\n", page("man/plistconv.1"))
-        for name, line in (("textconv", lines[0]), ("textconv", lines[1]), ("staged", lines[2]), ("canonicalise", lines[3])):
+        for name, line in (
+            ("textconv", lines[0]),
+            ("textconv", lines[1]),
+            ("staged", lines[2]),
+            ("canonicalise", lines[3]),
+        ):
             self.assertIn(f"  {line}\n", self.tool(name, "--help").stdout.decode())
 
     def test_manual_has_every_option(self):
@@ -37,10 +48,21 @@ class Pages(Case):
     def test_pages_say_what_converters_of_xml_differ_in(self):
         for name in ("docs/RECIPES.md", "man/plistconv.1"):
             text = " ".join(page(name).split())
-            for word in ("CR LF", "base64", "duplicate key", "64 bits", "second value", "fraction", "8 bytes", "4 bytes"):
+            for word in (
+                "CR LF",
+                "base64",
+                "duplicate key",
+                "64 bits",
+                "second value",
+                "fraction",
+                "8 bytes",
+                "4 bytes",
+            ):
                 self.assertIn(word, text, name)
-            places = [text.index(word) for word in
-                      ("plistconv-canonicalise --from-xml", "plistutil -i", "plutil -convert")]
+            places = [
+                text.index(word)
+                for word in ("plistconv-canonicalise --from-xml", "plistutil -i", "plutil -convert")
+            ]
             self.assertEqual(places, sorted(places), name)
             self.assertRegex(text, r"plutil -convert binary1 -o OUT IN *[(#] ?macOS")
 
@@ -49,8 +71,16 @@ class Jobs(Case):
     """scripts/jobs.sh"""
 
     def test_jobs_follow_memory_and_processors(self):
-        processors = len(os.sched_getaffinity(0)) if hasattr(os, "sched_getaffinity") else os.cpu_count()
-        for kilobytes, jobs in ((1, 1), (8_000_000, 1), (16_300_000, 2), (24_700_000, 4), (10**12, processors)):
+        processors = (
+            len(os.sched_getaffinity(0)) if hasattr(os, "sched_getaffinity") else os.cpu_count()
+        )
+        for kilobytes, jobs in (
+            (1, 1),
+            (8_000_000, 1),
+            (16_300_000, 2),
+            (24_700_000, 4),
+            (10**12, processors),
+        ):
             memory = self.put("memory", b"MemFree: 7 kB\nMemTotal:       %d kB\n" % kilobytes)
             printed = self.call([str(TOP / "scripts" / "jobs.sh"), str(memory)]).stdout
             self.assertEqual(printed, b"%d\n" % min(jobs, processors))

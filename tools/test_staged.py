@@ -79,8 +79,13 @@ class Staged(Repository):
             self.assertIn("sub/a.plist: an OpenStep text", self.commit(status=1, env=env))
         for option in ("--literal-pathspecs", "--noglob-pathspecs", "--glob-pathspecs"):
             self.call(["git", option, "commit", "-qm", "one"], 1)
-        for key, value in (("diff.noprefix", "true"), ("diff.relative", "true"), ("diff.renames", "copies"),
-                           ("core.quotePath", "true"), ("diff.external", "false")):
+        for key, value in (
+            ("diff.noprefix", "true"),
+            ("diff.relative", "true"),
+            ("diff.renames", "copies"),
+            ("core.quotePath", "true"),
+            ("diff.external", "false"),
+        ):
             self.git("config", key, value)
         self.assertIn("sub/a.plist: an OpenStep text", self.commit(status=1))
 
@@ -143,7 +148,9 @@ class Staged(Repository):
         for number in range(40):
             self.put(f"{number}.plist", b"{a=%d;}" % number)
         self.git("add", "-A")
-        self.put(".git/bin/git", b'#!/bin/sh\necho "$1" >> "$CALLS"\nPATH=${PATH#*:} exec git "$@"\n').chmod(0o755)
+        self.put(
+            ".git/bin/git", b'#!/bin/sh\necho "$1" >> "$CALLS"\nPATH=${PATH#*:} exec git "$@"\n'
+        ).chmod(0o755)
         calls = self.folder / "calls"
         run = self.tool("staged", status=1, env={**self.environment, "CALLS": str(calls)})
         self.assertEqual(run.stderr.count(b": an OpenStep text"), 40)
@@ -159,13 +166,18 @@ class Staged(Repository):
         self.git("add", "-A")
         run = self.tool("staged", status=1)
         self.assertIn(b"Localizable.strings: an OpenStep text", run.stderr)
-        self.assertIn(b", which loses comments and the order of keys: plistconv-canonicalise", run.stderr)
+        self.assertIn(
+            b", which loses comments and the order of keys: plistconv-canonicalise", run.stderr
+        )
 
     def test_attributes_of_the_index_leave_files_out_and_add_some(self):
         self.put("k.plist", ARCHIVE)
         self.put("settings", TEXT)
         self.git("add", "k.plist", "settings")
-        self.refuses("add this line to .gitattributes, and git add .gitattributes: /k.plist -plistconv", "staged")
+        self.refuses(
+            "add this line to .gitattributes, and git add .gitattributes: /k.plist -plistconv",
+            "staged",
+        )
         self.put(".gitattributes", b"k.plist -plistconv\nsettings plistconv\n")
         self.refuses("k.plist: refused 9", "staged")
         self.git("add", ".gitattributes")
@@ -177,8 +189,18 @@ class Staged(Repository):
         self.commit()
 
     def test_line_of_the_hint_leaves_out_the_file_that_it_names(self):
-        names = ["a b.plist", "[ab].plist", "b.plist", "#x.plist", "!x.plist", 'q"\\.plist', "n\nl.plist", "sub/\u00e9 .plist",
-                 "*.plist", os.fsdecode(b"caf\xe9.plist")]
+        names = [
+            "a b.plist",
+            "[ab].plist",
+            "b.plist",
+            "#x.plist",
+            "!x.plist",
+            'q"\\.plist',
+            "n\nl.plist",
+            "sub/\u00e9 .plist",
+            "*.plist",
+            os.fsdecode(b"caf\xe9.plist"),
+        ]
         for name in names:
             self.put(name, ARCHIVE)
             self.git("--literal-pathspecs", "add", "--", name)
@@ -188,13 +210,15 @@ class Staged(Repository):
         for line in lines:
             self.put(".gitattributes", line.encode() + b"\n")
             self.git("add", ".gitattributes")
-            self.assertEqual(self.tool("staged", status=1).stderr.count(b": refused 9"), len(names) - 1, line)
+            self.assertEqual(
+                self.tool("staged", status=1).stderr.count(b": refused 9"), len(names) - 1, line
+            )
         self.put(".gitattributes", "\n".join(lines).encode())
         self.git("add", ".gitattributes")
         self.prints(b"", "staged")
 
     def test_attributes_that_change_bytes_are_refused_with_the_line_that_mends(self):
-        value = self.canonical(b"(" + b"word," * 100 + b"\"\n\r\n\", " * 99 + b")")
+        value = self.canonical(b"(" + b"word," * 100 + b'"\n\r\n", ' * 99 + b")")
         self.put("a.plist", value)
         self.put("Settings", value)
         said = "git changes its line ends: the attribute text or eol is set"
@@ -203,12 +227,23 @@ class Staged(Repository):
             self.git("add", "-A")
             run = self.tool("staged", "--all", status=1)
             self.assertNotIn(b"to commit a file as it is", run.stderr)  # (it may be broken already)
-            for name, fix in (("a.plist", "*.plist -text diff=plist"), ("Settings", "/Settings -text diff=plist")):
+            for name, fix in (
+                ("a.plist", "*.plist -text diff=plist"),
+                ("Settings", "/Settings -text diff=plist"),
+            ):
                 self.assertIn(f"{name}: {said}\n".encode(), run.stderr)
-                self.assertIn(f"end .gitattributes with this line, and git add .gitattributes: {fix}\n".encode(), run.stderr)
+                self.assertIn(
+                    f"end .gitattributes with this line, and git add .gitattributes: {fix}\n".encode(),
+                    run.stderr,
+                )
         fixes = "*.plist -text diff=plist\n/Settings -text diff=plist\n"
-        for line in ("* text\nSettings plistconv\n" + fixes, "* text=auto eol=crlf\nSettings plistconv\n", "* -text eol=crlf\n",
-                     "* -crlf\n", "* diff=plist\n"):
+        for line in (
+            "* text\nSettings plistconv\n" + fixes,
+            "* text=auto eol=crlf\nSettings plistconv\n",
+            "* -text eol=crlf\n",
+            "* -crlf\n",
+            "* diff=plist\n",
+        ):
             self.put(".gitattributes", line.encode())
             self.git("rm", "-rqf", "--cached", ".")
             self.git("add", "-A")
@@ -233,15 +268,27 @@ class Staged(Repository):
         self.prints(b"", "staged")
 
     def test_what_is_said_mends_the_files(self):
-        for name, octets in (("a b.plist", TEXT), ("-c'.plist", SAME), ("x.plist", XML), ("$(no).plist", b"a=b;"),
-                             ("[ab].plist", TEXT), (":x.plist", UNSORTED), ("empty.plist", b""), ("n\n'\\.plist", UNSORTED),
-                             ("comment.plist", b"// {}"), (os.fsdecode(b"caf\xe9.plist"), UNSORTED)):
+        for name, octets in (
+            ("a b.plist", TEXT),
+            ("-c'.plist", SAME),
+            ("x.plist", XML),
+            ("$(no).plist", b"a=b;"),
+            ("[ab].plist", TEXT),
+            (":x.plist", UNSORTED),
+            ("empty.plist", b""),
+            ("n\n'\\.plist", UNSORTED),
+            ("comment.plist", b"// {}"),
+            (os.fsdecode(b"caf\xe9.plist"), UNSORTED),
+        ):
             self.put(name, octets)
             self.git("--literal-pathspecs", "add", "--", name)
         self.put("b.plist", b"not staged")
         self.hook()
         said = self.commit(status=1)
-        lines = re.findall(r"(?m)to mend in the top folder(?:, which loses comments and the order of keys)?: (.*)$", said)
+        lines = re.findall(
+            r"(?m)to mend in the top folder(?:, which loses comments and the order of keys)?: (.*)$",
+            said,
+        )
         self.assertEqual(len(lines), 3)
         self.assertEqual(said.count("loses comments"), 2)
         if shutil.which("bash") is None:
@@ -259,8 +306,10 @@ class Staged(Repository):
         (self.folder / "c.plist").unlink()
         said = self.tool("staged", status=1).stderr.decode()
         more = "differs in the work tree, and git add stages all of it"
-        self.assertEqual(re.findall(f"(?m)(.): {more}$".replace("(.)", "(.*)"), said),
-                         ["plistconv-staged: b.plist", "plistconv-staged: c.plist"])
+        self.assertEqual(
+            re.findall(f"(?m)(.): {more}$".replace("(.)", "(.*)"), said),
+            ["plistconv-staged: b.plist", "plistconv-staged: c.plist"],
+        )
 
     def test_relative_folders_in_the_variables_of_git_are_kept(self):
         self.put("work/sub/a.plist", TEXT)
@@ -282,14 +331,22 @@ class Staged(Repository):
 
     def test_nothing_staged_and_no_repository(self):
         self.prints(b"", "staged")
-        env = {**self.environment, "GIT_CEILING_DIRECTORIES": str(self.folder.parent), "GIT_DIR": "/none"}
+        env = {
+            **self.environment,
+            "GIT_CEILING_DIRECTORIES": str(self.folder.parent),
+            "GIT_DIR": "/none",
+        }
         self.refuses("git rev-parse ended with status 128", "staged", status=2, env=env)
-        self.refuses("git cannot be run", "staged", status=2, env={**self.environment, "PATH": "/none"})
+        self.refuses(
+            "git cannot be run", "staged", status=2, env={**self.environment, "PATH": "/none"}
+        )
         if not os.path.exists("/dev/full"):
             self.skipTest("skipped: there is no /dev/full")
         words = [sys.executable, str(TOOLS / "plistconv-staged")]
         with open("/dev/full", "wb") as full:
-            run = subprocess.run(words, stdout=full, stderr=full, check=False, cwd=str(self.folder), env=env)
+            run = subprocess.run(
+                words, stdout=full, stderr=full, check=False, cwd=str(self.folder), env=env
+            )
         self.assertEqual(run.returncode, 2)
 
 

@@ -1,5 +1,6 @@
 #!/usr/bin/env python3
-"""Tests what holds for all of the commands, and runs all tests: PLISTCONV=./plistconv python3 tools/test_tools.py"""
+"""Tests what holds for all of the commands, and runs all tests: PLISTCONV=./plistconv python3
+tools/test_tools.py"""
 from __future__ import annotations
 
 import ast
@@ -11,7 +12,19 @@ import signal
 import sys
 import unittest
 
-from testing import COMMANDS, OTHER, PRINTED, PROGRAM, SAME, TEXT, TOOLS, TWICE, XML, XML_PRINTED, Case
+from testing import (
+    COMMANDS,
+    OTHER,
+    PRINTED,
+    PROGRAM,
+    SAME,
+    TEXT,
+    TOOLS,
+    TWICE,
+    XML,
+    XML_PRINTED,
+    Case,
+)
 
 WORDS = {
     "canonicalise": ["-"],
@@ -43,7 +56,12 @@ class EveryCommand(Case):
         for name in COMMANDS:
             if name != "staged":
                 self.refuses(f"usage: plistconv-{name}", name, status=2)
-            for words in (["--none", "1", "2", "3"], ["a", "--none=3", "1"], ["--none", "--", "-x"], ["-x\n--none", "a"]):
+            for words in (
+                ["--none", "1", "2", "3"],
+                ["a", "--none=3", "1"],
+                ["--none", "--", "-x"],
+                ["-x\n--none", "a"],
+            ):
                 self.refuses(f"usage: plistconv-{name}", name, *words, status=2)
                 option = next(word for word in words if word.startswith("-")).replace("\n", r"\n")
                 self.refuses(f"error: there is no option {option}\n", name, *words, status=2)
@@ -56,7 +74,9 @@ class EveryCommand(Case):
     def test_standard_input_is_read_once(self):
         for name in ("canonicalise", "digest", "diff"):
             for words in (["-", "-"], ["-", "/dev/stdin"]):
-                self.refuses("error: standard input is named twice", name, *words, status=2, input=TEXT)
+                self.refuses(
+                    "error: standard input is named twice", name, *words, status=2, input=TEXT
+                )
 
     def test_no_program_is_status_2(self):
         self.git("init", "-q")
@@ -65,7 +85,14 @@ class EveryCommand(Case):
         for name in COMMANDS:
             if name != "where":
                 env = {**self.environment, "PLISTCONV": "/none/plistconv"}
-                self.refuses("there is no program /none/plistconv", name, *WORDS[name], status=2, env=env, input=TEXT)
+                self.refuses(
+                    "there is no program /none/plistconv",
+                    name,
+                    *WORDS[name],
+                    status=2,
+                    env=env,
+                    input=TEXT,
+                )
 
     def test_a_program_that_fails_is_status_2(self):
         for body in ("exit 3", "kill -9 $$", "exit 2"):
@@ -73,7 +100,9 @@ class EveryCommand(Case):
             script.chmod(0o755)
             env = {**self.environment, "PLISTCONV": str(script)}
             for name in ("canonicalise", "digest", "diff", "textconv"):
-                self.refuses("program ended with status", name, *WORDS[name], status=2, env=env, input=TEXT)
+                self.refuses(
+                    "program ended with status", name, *WORDS[name], status=2, env=env, input=TEXT
+                )
 
     def test_full_device_for_output_is_status_2_and_said(self):
         if not os.path.exists("/dev/full"):
@@ -83,13 +112,29 @@ class EveryCommand(Case):
             for words in [["--help"], ["--version"], *([WORDS[name]] if name != "staged" else [])]:
                 for env in (self.environment, unbuffered):
                     with open("/dev/full", "wb") as full:
-                        self.refuses("standard output cannot be written: No space", name, *words, status=2, stdout=full,
-                                     printed=None, input=TEXT, env=env)
+                        self.refuses(
+                            "standard output cannot be written: No space",
+                            name,
+                            *words,
+                            status=2,
+                            stdout=full,
+                            printed=None,
+                            input=TEXT,
+                            env=env,
+                        )
 
     def test_closed_output_is_status_2_and_said(self):
         for name in COMMANDS:
             for more in [WORDS[name], ["--help"]] if name != "staged" else [["--help"]]:
-                words = ["sh", "-c", 'exec "$@" >&-', "sh", sys.executable, str(TOOLS / f"plistconv-{name}"), *more]
+                words = [
+                    "sh",
+                    "-c",
+                    'exec "$@" >&-',
+                    "sh",
+                    sys.executable,
+                    str(TOOLS / f"plistconv-{name}"),
+                    *more,
+                ]
                 run = self.call(words, 2, input=TEXT)
                 self.assertIn(b"standard output cannot be written: Bad file descriptor", run.stderr)
 
@@ -98,7 +143,18 @@ class EveryCommand(Case):
         words = [sys.executable, str(TOOLS / "plistconv-canonicalise"), "b.plist", "none"]
         self.call(["sh", "-c", 'exec "$@" <&- >&- 2>&-', "sh", *words], 1)
         self.assertEqual(before.read_bytes(), self.canonical(SAME))
-        run = self.call(["sh", "-c", 'exec "$@" <&-', "sh", sys.executable, str(TOOLS / "plistconv-digest"), "-"], 1)
+        run = self.call(
+            [
+                "sh",
+                "-c",
+                'exec "$@" <&-',
+                "sh",
+                sys.executable,
+                str(TOOLS / "plistconv-digest"),
+                "-",
+            ],
+            1,
+        )
         self.assertIn(b"-: Bad file descriptor", run.stderr)
 
     def test_reader_that_goes_away_gets_no_traceback(self):
@@ -111,7 +167,10 @@ class EveryCommand(Case):
 
     def test_interrupt_prints_no_traceback(self):
         # While the modules are read, and while the program runs.
-        self.put("modules/argparse.py", b"import os, signal, time\nos.kill(os.getpid(), signal.SIGINT)\ntime.sleep(9)\n")
+        self.put(
+            "modules/argparse.py",
+            b"import os, signal, time\nos.kill(os.getpid(), signal.SIGINT)\ntime.sleep(9)\n",
+        )
         env = {**self.environment, "PYTHONPATH": str(self.folder / "modules")}
         for name in COMMANDS:
             run = self.tool(name, *WORDS[name], status=-signal.SIGINT, env=env, input=TEXT)
@@ -126,11 +185,23 @@ class EveryCommand(Case):
         # Twenty-two arrays that each contain the one before twice print more than 64 MB.
         halves = b"".join(b"\xa2" + bytes([at + 1, at + 1]) for at in range(22)) + b"Qx"
         places = bytes(8 + 3 * at for at in range(23))
-        deep = b"bplist00" + halves + places + bytes(6) + b"\1\1" + bytes(7) + bytes([23]) + bytes(15) + bytes([8 + len(halves)])
+        deep = (
+            b"bplist00"
+            + halves
+            + places
+            + bytes(6)
+            + b"\1\1"
+            + bytes(7)
+            + bytes([23])
+            + bytes(15)
+            + bytes([8 + len(halves)])
+        )
         self.put("deep", deep)
         digest = hashlib.sha256(deep).hexdigest()
         why = "prints more than %s bytes, the limit (PLISTCONV_PRINT_LIMIT)"
-        self.prints(f"Binary file: {why % 64000000}; SHA-256 {digest}\n".encode(), "textconv", "deep")
+        self.prints(
+            f"Binary file: {why % 64000000}; SHA-256 {digest}\n".encode(), "textconv", "deep"
+        )
         self.refuses(f"plistconv-diff: deep: {why % 64000000}", "diff", "a", "deep", status=2)
         self.put("copy", deep)
         self.prints(b"", "diff", "deep", "copy")
@@ -139,7 +210,9 @@ class EveryCommand(Case):
             self.tool("diff", "a", "other", status=status, env=env)
             self.prints(b"", "diff", "a", "a", env=env)
         env = {**self.environment, "PLISTCONV_PRINT_LIMIT": "1 GB"}
-        self.refuses("PLISTCONV_PRINT_LIMIT is no number of bytes: 1 GB", "textconv", "a", status=2, env=env)
+        self.refuses(
+            "PLISTCONV_PRINT_LIMIT is no number of bytes: 1 GB", "textconv", "a", status=2, env=env
+        )
 
     def test_no_temporary_folder_is_needed(self):
         env = {**self.environment, "TMPDIR": "/none"}
@@ -159,9 +232,14 @@ class EveryCommand(Case):
 
     def test_program_is_found_beside_the_command_or_on_the_path(self):
         env = {name: value for name, value in self.environment.items() if name != "PLISTCONV"}
-        checkout, installed = self.folder / "one" / "share" / "plistconv", self.folder / "two" / "share" / "plistconv"
+        checkout, installed = (
+            self.folder / "one" / "share" / "plistconv",
+            self.folder / "two" / "share" / "plistconv",
+        )
         for folder in (checkout, installed):
-            shutil.copytree(str(TOOLS), str(folder / "tools"), ignore=shutil.ignore_patterns("__pycache__"))
+            shutil.copytree(
+                str(TOOLS), str(folder / "tools"), ignore=shutil.ignore_patterns("__pycache__")
+            )
         (checkout / "crates.txt").write_bytes(b"")
 
         def prints(folder, path="/none", status=0):
@@ -170,7 +248,9 @@ class EveryCommand(Case):
             if command.is_symlink():
                 command.unlink()
             os.symlink(str(folder / "tools" / "plistconv-textconv"), str(command))
-            run = self.call([sys.executable, "bin/plistconv-textconv", "a"], status, env={**env, "PATH": path})
+            run = self.call(
+                [sys.executable, "bin/plistconv-textconv", "a"], status, env={**env, "PATH": path}
+            )
             self.assertEqual(run.stdout, b"" if status else PRINTED)
 
         for folder in (checkout, installed):
@@ -179,8 +259,12 @@ class EveryCommand(Case):
             other = self.put(folder / "bin" / "plistconv", b"#!/bin/sh\necho other\n")
             other.chmod(0o755)
             prints(folder, status=2)
-        for path, folder, is_there in ((self.folder / "one" / "bin", checkout, False), (checkout, checkout, True),
-                                       (self.folder / "two" / "bin", installed, True), (installed, installed, False)):
+        for path, folder, is_there in (
+            (self.folder / "one" / "bin", checkout, False),
+            (checkout, checkout, True),
+            (self.folder / "two" / "bin", installed, True),
+            (installed, installed, False),
+        ):
             path.mkdir(exist_ok=True)
             shutil.copy(PROGRAM, str(path / "plistconv"))
             prints(folder, status=0 if is_there else 2)
@@ -191,7 +275,13 @@ class EveryCommand(Case):
             prints(folder)
 
     def test_files_that_are_not_there_or_folders_are_said(self):
-        for name, status in (("canonicalise", 1), ("digest", 1), ("diff", 2), ("textconv", 2), ("where", 1)):
+        for name, status in (
+            ("canonicalise", 1),
+            ("digest", 1),
+            ("diff", 2),
+            ("textconv", 2),
+            ("where", 1),
+        ):
             for file, why in (("none", "No such file"), ("", "No such file"), (".", "")):
                 more = ["a"] if name == "diff" else ["1"] if name == "where" else []
                 self.refuses(f"plistconv-{name}: {file}: {why}", name, file, *more, status=status)

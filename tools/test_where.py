@@ -11,17 +11,29 @@ class Where(Case):
 
     def test_lines_columns_and_carets(self):
         self.put("lines", b'{\r\n  a = "\303\251\t\033";\r\n  a = b;\n}')
-        for offset, wanted in ((20, "lines:3:3\n  a = b;\n  ^\n"), (13, 'lines:2:10\n  a = "é .";\n         ^\n'),
-                               (27, "lines:4:1\n}\n^\n"), (28, "lines:4:2\n}\n ^\n"), (0, "lines:1:1\n{\n^\n"),
-                               (2, "lines:1:2\n{\n ^\n"), (11, 'lines:2:8\n  a = "é .";\n       ^\n')):
+        for offset, wanted in (
+            (20, "lines:3:3\n  a = b;\n  ^\n"),
+            (13, 'lines:2:10\n  a = "é .";\n         ^\n'),
+            (27, "lines:4:1\n}\n^\n"),
+            (28, "lines:4:2\n}\n ^\n"),
+            (0, "lines:1:1\n{\n^\n"),
+            (2, "lines:1:2\n{\n ^\n"),
+            (11, 'lines:2:8\n  a = "é .";\n       ^\n'),
+        ):
             self.prints(wanted.encode(), "where", "lines", str(offset))
-        self.prints("-:1:6\n{a = \ufffd;}\n     ^\n".encode(), "where", "-", "5", input=b"{a = \xff;}")
+        self.prints(
+            "-:1:6\n{a = \ufffd;}\n     ^\n".encode(), "where", "-", "5", input=b"{a = \xff;}"
+        )
         self.refuses("lines: has 28 bytes", "where", "lines", "29")
         for wrong in ("x", "-1", "", "1.5", "٣"):
             self.refuses("usage: plistconv-where", "where", "--", "lines", wrong, status=2)
 
     def test_place_of_a_refusal_in_utf16(self):
-        for encoding, mark in (("utf-16-le", b"\xff\xfe"), ("utf-16-be", b"\xfe\xff"), ("utf-8", b"\xef\xbb\xbf")):
+        for encoding, mark in (
+            ("utf-16-le", b"\xff\xfe"),
+            ("utf-16-be", b"\xfe\xff"),
+            ("utf-8", b"\xef\xbb\xbf"),
+        ):
             self.put("wide", mark + '{\nk = "é"; @'.encode(encoding))
             offset = self.call([PROGRAM, "lint", "wide"], 2).stdout.split()[-1]
             self.prints('wide:2:10\nk = "é"; @\n         ^\n'.encode(), "where", "wide", offset)
@@ -32,7 +44,13 @@ class Where(Case):
         self.refuses("binary: a binary property list has no lines", "where", "binary", "octet", "1")
         self.prints(b"-:1:2\nab\n ^\n", "where", "-", "octet", "1", input=b"ab")
         self.put("long", b"x" * 10_000)
-        self.prints(b"-:1:5001\n" + b"x" * 120 + b"\n" + b" " * 60 + b"^\n", "where", "-", "5000", input=b"x" * 10_000)
+        self.prints(
+            b"-:1:5001\n" + b"x" * 120 + b"\n" + b" " * 60 + b"^\n",
+            "where",
+            "-",
+            "5000",
+            input=b"x" * 10_000,
+        )
 
 
 def binary(*objects, top=0, count=None, table=None) -> bytes:
@@ -42,7 +60,13 @@ def binary(*objects, top=0, count=None, table=None) -> bytes:
         begins.append(len(body))
         body += octets
     numbers = (len(objects) if count is None else count, top, len(body) if table is None else table)
-    return body + bytes(begins) + bytes(6) + b"\1\1" + b"".join(number.to_bytes(8, "big") for number in numbers)
+    return (
+        body
+        + bytes(begins)
+        + bytes(6)
+        + b"\1\1"
+        + b"".join(number.to_bytes(8, "big") for number in numbers)
+    )
 
 
 class Objects(Case):
@@ -51,18 +75,44 @@ class Objects(Case):
     def finds(self, octets, number, where, path) -> None:
         """Expects this place of an object, and this path."""
         self.put("f", octets)
-        self.prints(f"f: object {number} begins at byte {where}\n{path}\n".encode(), "where", "f", "object", str(number))
+        self.prints(
+            f"f: object {number} begins at byte {where}\n{path}\n".encode(),
+            "where",
+            "f",
+            "object",
+            str(number),
+        )
 
     def test_archive_whose_uid_is_refused(self):
-        octets = binary(b"\xd2\1\2\3\4", b"T$top", b"Wobjects", b"\xd1\5\6", b"\xa4\7\7\7\x08", b"Troot", b"\x80\1", b"\x09",
-                        b"\xd1\x09\x0a", b"Sisa", b"\x81\1\x2c")
+        octets = binary(
+            b"\xd2\1\2\3\4",
+            b"T$top",
+            b"Wobjects",
+            b"\xd1\5\6",
+            b"\xa4\7\7\7\x08",
+            b"Troot",
+            b"\x80\1",
+            b"\x09",
+            b"\xd1\x09\x0a",
+            b"Sisa",
+            b"\x81\1\x2c",
+        )
         self.put("f", octets)
         number = int(self.call([PROGRAM, "lint", "f"], 2).stdout.split()[-1])
         self.finds(octets, number, "39: 80, a UID of 1 byte", 'root["$top"].root')
         self.finds(octets, 10, "49: 81, a UID of 2 bytes", "root.objects[3].isa")
 
     def test_paths(self):
-        octets = binary(b"\xd2\1\2\3\4", b"Sisa", b"T\"\x7f a", b"\xa2\5\6", b"\xd1\6\5", b"\x09", b"\x11\1\2", b"\x08")
+        octets = binary(
+            b"\xd2\1\2\3\4",
+            b"Sisa",
+            b'T"\x7f a',
+            b"\xa2\5\6",
+            b"\xd1\6\5",
+            b"\x09",
+            b"\x11\1\2",
+            b"\x08",
+        )
         for number, where, path in (
             (0, "8: d2, a dictionary of 2 pairs", "root"),
             (1, "13: 53, a string of 3 ASCII characters", "root.isa (the key)"),
@@ -81,12 +131,19 @@ class Objects(Case):
 
     def test_markers_in_words(self):
         for octets, words in (
-            (b"\x10\1", "an integer of 1 byte"), (b"\x14" + bytes(16), "an integer of 16 bytes"),
-            (b"\x22" + bytes(4), "a real of 4 bytes"), (b"\x23" + bytes(8), "a real of 8 bytes"),
-            (b"\x33" + bytes(8), "a date"), (b"\x41x", "data of 1 byte"), (b"\x40", "data of 0 bytes"),
-            (b"_\x10\x10" + b"x" * 16, "a string of 16 ASCII characters"), (b"\xc1\0", "a set of 1 item"),
-            (b"_\x09", "a string of ASCII characters, whose count cannot be read"), (b"\x15", "an unknown marker"),
-            (b"\x70", "an unknown marker"), (b"\x20", "an unknown marker"),
+            (b"\x10\1", "an integer of 1 byte"),
+            (b"\x14" + bytes(16), "an integer of 16 bytes"),
+            (b"\x22" + bytes(4), "a real of 4 bytes"),
+            (b"\x23" + bytes(8), "a real of 8 bytes"),
+            (b"\x33" + bytes(8), "a date"),
+            (b"\x41x", "data of 1 byte"),
+            (b"\x40", "data of 0 bytes"),
+            (b"_\x10\x10" + b"x" * 16, "a string of 16 ASCII characters"),
+            (b"\xc1\0", "a set of 1 item"),
+            (b"_\x09", "a string of ASCII characters, whose count cannot be read"),
+            (b"\x15", "an unknown marker"),
+            (b"\x70", "an unknown marker"),
+            (b"\x20", "an unknown marker"),
         ):
             self.finds(binary(octets), 0, f"8: {octets[0]:02x}, {words}", "root")
 
@@ -100,38 +157,75 @@ class Objects(Case):
         many = 50_000
         body = b"".join(b"\xa1" + (at + 1).to_bytes(2, "big") for at in range(many)) + b"\x09"
         table = b"".join((8 + 3 * at).to_bytes(4, "big") for at in range(many + 1))
-        trailer = bytes(6) + b"\4\2" + b"".join(n.to_bytes(8, "big") for n in (many + 1, 0, 8 + len(body)))
+        trailer = (
+            bytes(6)
+            + b"\4\2"
+            + b"".join(n.to_bytes(8, "big") for n in (many + 1, 0, 8 + len(body)))
+        )
         deep = b"bplist00" + body + table + trailer
         self.finds(deep, many, f"{8 + 3 * many}: 09, true", "root" + "[0]" * many)
 
     def test_broken_files(self):
         good = binary(b"\xa1\1", b"Qa")
-        self.finds(good[:8] + b"\xa7" + good[9:], 0, "8: a7, an array of 7 items; it reaches past byte 11, the last before "
-                   "the offset table", "root")
-        self.finds(good[:8] + b"\xa1\x09" + good[10:], 1, "10: 51, a string of 1 ASCII character",
-                   "no path leads to it from the top, object 0")
-        self.finds(good[:12] + b"\x08\xff" + good[14:], 1, "255; the objects are from byte 8 to 11", "root[0]")
-        self.finds(binary(b"\xa1\1", b"Qa", top=9), 1, "10: 51, a string of 1 ASCII character",
-                   "no path leads to it from the top, object 9")
+        self.finds(
+            good[:8] + b"\xa7" + good[9:],
+            0,
+            "8: a7, an array of 7 items; it reaches past byte 11, the last before "
+            "the offset table",
+            "root",
+        )
+        self.finds(
+            good[:8] + b"\xa1\x09" + good[10:],
+            1,
+            "10: 51, a string of 1 ASCII character",
+            "no path leads to it from the top, object 0",
+        )
+        self.finds(
+            good[:12] + b"\x08\xff" + good[14:],
+            1,
+            "255; the objects are from byte 8 to 11",
+            "root[0]",
+        )
+        self.finds(
+            binary(b"\xa1\1", b"Qa", top=9),
+            1,
+            "10: 51, a string of 1 ASCII character",
+            "no path leads to it from the top, object 9",
+        )
         for octets, why in (
             (good, "its offset table has 2 objects, so there is no object 2"),
             (binary(b"\x09", count=9), "its offset table is cut, so there is no object 2"),
-            (binary(b"\x09", count=2**64 - 1, table=2**64 - 1), "its offset table is cut, so there is no object 2"),
-            (b"bplist00", "has 8 bytes, too few for objects"), (good[:-26] + b"\0" + good[-25:], "a width that is not from 1"),
+            (
+                binary(b"\x09", count=2**64 - 1, table=2**64 - 1),
+                "its offset table is cut, so there is no object 2",
+            ),
+            (b"bplist00", "has 8 bytes, too few for objects"),
+            (good[:-26] + b"\0" + good[-25:], "a width that is not from 1"),
             (TEXT, "is no binary property list, so it has no objects"),
         ):
             self.put("f", octets)
             self.refuses(why, "where", "f", "object", "2")
-        for words in (["object", "-1"], ["object"], ["place", "1"], ["object", "1", "2"], ["object", "9" * 21]):
+        for words in (
+            ["object", "-1"],
+            ["object"],
+            ["place", "1"],
+            ["object", "1", "2"],
+            ["object", "9" * 21],
+        ):
             self.refuses("usage: plistconv-where", "where", "--", "f", *words, status=2)
 
     def test_hostile_files_end(self):
-        # Each byte begins an array with all bytes that follow; and one array that every object shares.
+        # Each byte begins an array with all bytes that follow; and one array that
+        # every object shares.
         many = 5_000
         body = b"".join(b"\xaf\x12" + (1 << 20).to_bytes(4, "big") for _ in range(many))
         for step in (6, 0):
             table = b"".join((8 + step * at).to_bytes(4, "big") for at in range(many))
-            trailer = bytes(6) + b"\4\2" + b"".join(n.to_bytes(8, "big") for n in (many, 0, 8 + len(body)))
+            trailer = (
+                bytes(6)
+                + b"\4\2"
+                + b"".join(n.to_bytes(8, "big") for n in (many, 0, 8 + len(body)))
+            )
             self.put("f", b"bplist00" + body + table + trailer)
             self.tool("where", "f", "object", str(many - 1))
 

@@ -7,8 +7,10 @@ import unittest
 
 from testing import OTHER, PROGRAM, TEXT, XML, Case
 
-HEAD = b'<?xml version="1.0" encoding="UTF-8"?>\n<!DOCTYPE plist PUBLIC "-//Apple//DTD PLIST 1.0//EN" ' \
-       b'"http://www.apple.com/DTDs/PropertyList-1.0.dtd">\n'
+HEAD = (
+    b'<?xml version="1.0" encoding="UTF-8"?>\n<!DOCTYPE plist PUBLIC "-//Apple//DTD PLIST 1.0//EN" '
+    b'"http://www.apple.com/DTDs/PropertyList-1.0.dtd">\n'
+)
 
 
 def document(value: str) -> bytes:
@@ -29,12 +31,20 @@ class Xml(Case):
         """Expects every command that reads XML to refuse the document."""
         self.refuses(f"-: refused as XML: {why}", "canonicalise", "--from-xml", "-", input=octets)
         self.refuses(f"-: refused as XML: {why}", "diff", "-", "none", input=octets, status=2)
-        self.assertIn(f"Binary file: refused as XML: {why}".encode(), self.tool("textconv", "-", input=octets).stdout)
+        self.assertIn(
+            f"Binary file: refused as XML: {why}".encode(),
+            self.tool("textconv", "-", input=octets).stdout,
+        )
 
     def test_values_are_those_of_plistlib(self):
         value = {
-            "text": "é 😀\n", "": "", "whole": [0, -1, 2**63 - 1, -(2**63), 2**64 - 1], "real": [2.5, -1e300, 0.0],
-            "flags": [True, False], "data": bytes(range(256)), "date": datetime.datetime(2025, 11, 22, 19, 54, 22),
+            "text": "é 😀\n",
+            "": "",
+            "whole": [0, -1, 2**63 - 1, -(2**63), 2**64 - 1],
+            "real": [2.5, -1e300, 0.0],
+            "flags": [True, False],
+            "data": bytes(range(256)),
+            "date": datetime.datetime(2025, 11, 22, 19, 54, 22),
             "empty": [[], {}, b""],
         }
         wanted = self.canonical(plistlib.dumps(value, fmt=plistlib.FMT_BINARY))
@@ -43,11 +53,18 @@ class Xml(Case):
     def test_spellings_of_one_value_are_equal(self):
         wanted = self.canonical(b"{ a = (b, <0001>); }")
         value = "<dict><key>a</key><array><string>b</string><data>AAE=</data></array></dict>"
-        spelled = "<dict>\n<key>&#97;</key><!-- c --><array>\n<string><![CDATA[b]]></string>" \
-                  "<data>\n A A\tE = </data></array></dict>"
+        spelled = (
+            "<dict>\n<key>&#97;</key><!-- c --><array>\n<string><![CDATA[b]]></string>"
+            "<data>\n A A\tE = </data></array></dict>"
+        )
         plain = f"<plist>{value}</plist>"
-        for octets in (document(value), document(spelled), b"<!-- first -->" + plain.encode(), plain.encode(),
-                       f'<?xml version="1.0"?>{plain}'.encode("utf-16")):
+        for octets in (
+            document(value),
+            document(spelled),
+            b"<!-- first -->" + plain.encode(),
+            plain.encode(),
+            f'<?xml version="1.0"?>{plain}'.encode("utf-16"),
+        ):
             self.assertEqual(self.converted(octets), wanted, octets)
         latin = b'<?xml version="1.0" encoding="ISO-8859-1"?><plist><string>\xe9</string></plist>'
         self.assertEqual(self.converted(latin), self.canonical('"é"'.encode()))
@@ -58,7 +75,10 @@ class Xml(Case):
             ("<data>AAE</data>", "line 3: this is no <data>"),
             ("<string>a</string><string>b</string>", "line 3: a second value"),
             ("", "line 3: no value"),
-            ("<dict><key>a</key><foo/><string>b</string></dict>", "line 3: there is no element <foo>"),
+            (
+                "<dict><key>a</key><foo/><string>b</string></dict>",
+                "line 3: there is no element <foo>",
+            ),
             ("<string>a<b/>c</string>", "line 3: there is no element <b>"),
             ("<string>a<true/>c</string>", "line 3: <true> in <string>"),
             ("<array>junk<true/></array>", "line 3: text outside of a value: 'junk'"),
@@ -77,23 +97,41 @@ class Xml(Case):
             ("<date>2025-11-22T19:54:22Z and more</date>", "line 3: this is no <date>"),
             ("<date>2025-13-22T19:54:22Z</date>", "plistlib: ValueError"),
             ("<string>&none;</string>", "line 3: an entity: none"),
-            ("<array><real>0</real><real>-0.0</real></array>", "plistlib does not write what it has read"),
-            ("<dict><key>CF$UID</key><integer>1</integer></dict>", "line 3: the key CF$UID, a UID of a keyed archive"),
+            (
+                "<array><real>0</real><real>-0.0</real></array>",
+                "plistlib does not write what it has read",
+            ),
+            (
+                "<dict><key>CF$UID</key><integer>1</integer></dict>",
+                "line 3: the key CF$UID, a UID of a keyed archive",
+            ),
             ("<plist><true/></plist>", "line 3: <plist> in <plist>"),
             ("<string>\x01</string>", "not well-formed (invalid token): line 3"),
             ("<array>" * 600 + "</array>" * 600, "line 3: more than 512 levels"),
         ):
             self.refused(document(value), why)
-        self.refused(b'<!DOCTYPE plist [<!ENTITY a "b">]><plist><string>&a;</string></plist>', "line 1: an entity: a")
-        self.refused(b'<?xml version="1.0" encoding="none"?><plist><true/></plist>', "unknown encoding")
-        self.refused(b"<html/>".replace(b"<", b"<!-- --><", 1), "line 1: there is no element <html>")
+        self.refused(
+            b'<!DOCTYPE plist [<!ENTITY a "b">]><plist><string>&a;</string></plist>',
+            "line 1: an entity: a",
+        )
+        self.refused(
+            b'<?xml version="1.0" encoding="none"?><plist><true/></plist>', "unknown encoding"
+        )
+        self.refused(
+            b"<html/>".replace(b"<", b"<!-- --><", 1), "line 1: there is no element <html>"
+        )
         self.refused(XML[:-9], "no element found")
 
     def test_levels_up_to_the_limit_are_read(self):
         octets = document("<array>" * 512 + "</array>" * 512)
         self.assertEqual(self.converted(octets), self.canonical(b"(" * 512 + b")" * 512))
-        self.refuses("-: refused 16 TooDeep", "canonicalise", "--from-xml", "-",
-                     input=document("<array>" * 513 + "</array>" * 513))
+        self.refuses(
+            "-: refused 16 TooDeep",
+            "canonicalise",
+            "--from-xml",
+            "-",
+            input=document("<array>" * 513 + "</array>" * 513),
+        )
 
     def test_files_in_their_places(self):
         path = self.put("a", XML)

@@ -1,4 +1,5 @@
-"""Shared code of the tests of the commands: a folder for each test, and calls of the commands in it."""
+"""Shared code of the tests of the commands: a folder for each test, and calls of
+the commands in it."""
 from __future__ import annotations
 
 import os
@@ -11,6 +12,7 @@ import sys
 import tempfile
 import unittest
 from pathlib import Path
+from typing import Any
 
 TOOLS = Path(__file__).resolve().parent
 TOP = TOOLS.parent
@@ -27,7 +29,9 @@ ARCHIVE = b"bplist00\xd1\x01\x02Qa\x80\x01\x08\x0b\x0d" + TRAILER
 
 def found_program() -> str:
     """Returns the absolute path of the program to test."""
-    program = shutil.which(os.environ.get("PLISTCONV") or str(TOP / "plistconv")) or shutil.which("plistconv")
+    program = shutil.which(os.environ.get("PLISTCONV") or str(TOP / "plistconv")) or shutil.which(
+        "plistconv"
+    )
     if program is None:
         sys.exit("test_tools: there is no plistconv: set PLISTCONV")
     return os.path.abspath(program)
@@ -35,7 +39,9 @@ def found_program() -> str:
 
 PROGRAM = found_program()
 ENVIRONMENT = {
-    **{name: value for name, value in os.environ.items() if not name.startswith(("GIT_", "PYTHON"))},
+    **{
+        name: value for name, value in os.environ.items() if not name.startswith(("GIT_", "PYTHON"))
+    },
     "PLISTCONV": PROGRAM,
     "PATH": f"{TOOLS}{os.pathsep}{os.environ.get('PATH', os.defpath)}",
     "LC_ALL": "C.UTF-8",
@@ -66,7 +72,13 @@ class Case(unittest.TestCase):
 
     def call(self, words, status=0, **more) -> subprocess.CompletedProcess:
         """Runs a program in the folder, which must exit with the status."""
-        options = {"input": b"", "stdout": subprocess.PIPE, "cwd": str(self.folder), "env": self.environment, **more}
+        options: dict[str, Any] = {
+            "input": b"",
+            "stdout": subprocess.PIPE,
+            "cwd": str(self.folder),
+            "env": self.environment,
+            **more,
+        }
         if "stdin" in options:
             del options["input"]
         run = subprocess.run(words, stderr=subprocess.PIPE, check=False, **options)
@@ -114,7 +126,8 @@ class Case(unittest.TestCase):
 
 
 class Repository(Case):
-    """A test in a new repository, with the commands on the path, in which the hook may be installed."""
+    """A test in a new repository, with the commands on the path, in which the hook
+    may be installed."""
 
     def setUp(self):
         super().setUp()
@@ -124,7 +137,9 @@ class Repository(Case):
         # So that `#!/usr/bin/env python3` is the Python that runs the tests.
         self.python = self.folder / ".git" / "bin"
         self.python.mkdir()
-        (self.python / "python3").write_bytes(f'#!/bin/sh\nexec {shlex.quote(sys.executable)} "$@"\n'.encode())
+        (self.python / "python3").write_bytes(
+            f'#!/bin/sh\nexec {shlex.quote(sys.executable)} "$@"\n'.encode()
+        )
         (self.python / "python3").chmod(0o755)
         self.environment["PATH"] = f"{self.python}{os.pathsep}{self.environment['PATH']}"
 
