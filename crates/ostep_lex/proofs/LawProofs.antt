@@ -5,17 +5,17 @@ use Rattle.std.specs.List.{starts_with}
 use Rattle.std.specs.Char.{is_digit, digit_value}
 use Rattle.ostep_lex.specs.declared.fault.LexFault.{LexFault}
 use Rattle.ostep_lex.specs.declared.fault.LexFault.TheVariants.{BadUtf8, XmlForm, UnexpectedCharacter, UnclosedString, UnclosedComment, BadEscape, OctalRange, OddData, BadData, BadUtf16, OutOfMemory}
-use Rattle.ostep_lex.specs.Encoding.{Places, places_of, Spells, StopsAt, place, octets_of, encoding_of, mark_of}
+use Rattle.ostep_lex.specs.Encoding.{Offsets, offsets_of, Spells, StopsAt, offset, octets_of, encoding_of, mark_of}
 use Rattle.ostep_lex.specs.Cursor.{UnlessMemory}
 use Rattle.ostep_lex.specs.Character.{is_white, less_than}
 use Rattle.ostep_lex.specs.Gap
 use Rattle.ostep_lex.specs.Gap.{Gap, GapPiece, LineComment, BlockComment}
 use Rattle.ostep_lex.specs.Octets.{Octets, OctetsPiece}
 use Rattle.ostep_lex.specs.Lexeme
-use Rattle.ostep_lex.specs.Lexeme.{Lexeme, IsToken, Placed}
+use Rattle.ostep_lex.specs.Lexeme.{Lexeme, IsToken, Located}
 use Rattle.ostep_lex.specs.Lexing.{Lexes, none, next, HasTokens, HasNoTokens}
 use Rattle.ostep_lex.specs.Stands
-use Rattle.ostep_lex.specs.Stands.{White, is_of_data, begins_xml, EscapeFault, QuotedFault, OctetsFault, FaultAt, FaultAfterGap, HasFault, HasXml, Stands}
+use Rattle.ostep_lex.specs.Stands.{White, is_of_data, begins_xml, EscapeFault, QuotedFault, OctetsFault, FaultAt, FaultAfterGap, HasFault, HasXml, StandsInTokens}
 use Rattle.ostep_lex.specs.Laws.{OneLexing, TokensContinue, FaultyHasNone}
 use Rattle.ostep_lex.specs.Digits.{number_from}
 use Rattle.ostep_lex.specs.Quoted
@@ -26,8 +26,8 @@ use Rattle.ostep_lex.proofs.TokenLemmas.{GapPiece-same, IsToken-gapless, other-o
 use Rattle.ostep_lex.proofs.TextLemmas.{after_mark, Spells-same, StopsAt-none, octets_of-append}
 
 -- tokens of one text are tokens of another text with the same bytes
-pub lexes_at : {octets text : List ℕ} {tokens : List Placed} → Spells octets text → HasTokens octets tokens → Lexes (places_of octets) text tokens
-lexes_at {octets} {tokens = tokens} s h = subst (λ x. Lexes (places_of octets) x tokens) (Spells-same h.spells s) h.lexes
+pub lexes_at : {octets text : List ℕ} {tokens : List Located} → Spells octets text → HasTokens octets tokens → Lexes (offsets_of octets) text tokens
+lexes_at {octets} {tokens = tokens} s h = subst (λ x. Lexes (offsets_of octets) x tokens) (Spells-same h.spells s) h.lexes
 
 pub one_lexing : OneLexing
 one_lexing octets tokens others t o = Lexes-same (lexes_at o.spells t) o.lexes
@@ -51,11 +51,11 @@ white_gap {end = end} w (Gap.piece g s) = inl (subst (λ x. Gap x end) (white_pi
 no_white : {c : ℕ} {text rest after : List ℕ} {l : Lexeme} → is_white c ≡ true → IsToken text l after → text ≡ c ∷ rest → ⊥
 no_white {rest = rest} w t e = IsToken-gapless t rest (subst (λ x. GapPiece x rest) (sym e) (Gap.white w))
 
-after_white : {p : Places} {c : ℕ} {rest : List ℕ} {tokens : List Placed} → is_white c ≡ true → Lexes p (c ∷ rest) tokens → Lexes p rest tokens
+after_white : {p : Offsets} {c : ℕ} {rest : List ℕ} {tokens : List Located} → is_white c ≡ true → Lexes p (c ∷ rest) tokens → Lexes p rest tokens
 after_white w (none g) = ⊎_elim (λ h. none h) (λ e. cc) (white_gap w g)
 after_white w (next g t r) = ⊎_elim (λ h. next h t r) (λ e. absurd (no_white w t e)) (white_gap w g)
 
-pub White-lexes : {p : Places} {text from : List ℕ} {tokens : List Placed} → White text from → Lexes p text tokens → Lexes p from tokens
+pub White-lexes : {p : Offsets} {text from : List ℕ} {tokens : List Located} → White text from → Lexes p text tokens → Lexes p from tokens
 White-lexes Stands.none l = l
 White-lexes (Stands.more w r) l = White-lexes r (after_white w l)
 
@@ -77,18 +77,18 @@ angle-gap : {rest end : List ℕ} → Gap (less_than ∷ rest) end → end ≡ l
 angle-gap Gap.none = refl
 angle-gap (Gap.piece g s) = absurd (angle-piece g)
 
-angle-lexes : {p : Places} {c : ℕ} {rest : List ℕ} {tokens : List Placed} → is_of_data c ≡ false → Lexes p (less_than ∷ c ∷ rest) tokens → ⊥
+angle-lexes : {p : Offsets} {c : ℕ} {rest : List ℕ} {tokens : List Located} → is_of_data c ≡ false → Lexes p (less_than ∷ c ∷ rest) tokens → ⊥
 angle-lexes d (none g) = cc (angle-gap g)
 angle-lexes d (next {after = after} {lexeme = l} g t r) = angle-token d (subst (λ x. IsToken x l after) (angle-gap g) t)
 
-begins-lexes : {p : Places} {text : List ℕ} {tokens : List Placed} (c : ℕ) (rest : List ℕ) → text ≡ less_than ∷ c ∷ rest → is_of_data c ≡ false → Lexes p text tokens → ⊥
+begins-lexes : {p : Offsets} {text : List ℕ} {tokens : List Located} (c : ℕ) (rest : List ℕ) → text ≡ less_than ∷ c ∷ rest → is_of_data c ≡ false → Lexes p text tokens → ⊥
 begins-lexes {p} {tokens = tokens} c rest e d l = angle-lexes d (subst (λ x. Lexes p x tokens) e l)
 
 either : (a b : Bool) → (a || b) ≡ true → (a ≡ true) ⊎ (b ≡ true)
 either true b e = inl refl
 either false b e = inr e
 
-xml-lexes : {p : Places} {text : List ℕ} {tokens : List Placed} → begins_xml text ≡ true → Lexes p text tokens → ⊥
+xml-lexes : {p : Offsets} {text : List ℕ} {tokens : List Located} → begins_xml text ≡ true → Lexes p text tokens → ⊥
 xml-lexes {text = text} e l =
     ⊎_elim
     (λ f. ⊎_elim (λ g. begins-lexes 63 _ (after_mark text (codes "<?xml") g) refl l) (λ g. begins-lexes 33 _ (after_mark text (codes "<!DOCTYPE") g) refl l)
@@ -110,31 +110,31 @@ faulty_has_none octets OutOfMemory s n = absurd (n refl)
 faulty_has_none octets _ s n = HasFault-none s
 
 -- a fault that is found when tokens are read is true of the bytes
-escape-stands : {octets : List ℕ} {p : Places} {start : ℕ} {text : List ℕ} {f : LexFault} → EscapeFault p start text f → HasFault octets f → Stands octets f
+escape-stands : {octets : List ℕ} {p : Offsets} {start : ℕ} {text : List ℕ} {f : LexFault} → EscapeFault p start text f → HasFault octets f → StandsInTokens octets f
 escape-stands Stands.cut_escape h = h
 escape-stands _ h = h
 
-quoted-stands : {octets : List ℕ} {p : Places} {start mark : ℕ} {text : List ℕ} {f : LexFault} → QuotedFault p start mark text f → HasFault octets f → Stands octets f
+quoted-stands : {octets : List ℕ} {p : Offsets} {start mark : ℕ} {text : List ℕ} {f : LexFault} → QuotedFault p start mark text f → HasFault octets f → StandsInTokens octets f
 quoted-stands Stands.cut_string h = h
 quoted-stands (Stands.escape e) h = escape-stands e h
 quoted-stands (Stands.piece e f) h = quoted-stands f h
 
-data-stands : {octets : List ℕ} {p : Places} {text : List ℕ} {f : LexFault} → OctetsFault p text f → HasFault octets f → Stands octets f
+data-stands : {octets : List ℕ} {p : Offsets} {text : List ℕ} {f : LexFault} → OctetsFault p text f → HasFault octets f → StandsInTokens octets f
 data-stands Stands.cut_data h = h
 data-stands (Stands.other d) h = h
 data-stands (Stands.odd d e) h = h
 data-stands (Stands.piece e f) h = data-stands f h
 
-after-stands : {octets : List ℕ} {p : Places} {text : List ℕ} {f : LexFault} → FaultAfterGap p text f → HasFault octets f → Stands octets f
+after-stands : {octets : List ℕ} {p : Offsets} {text : List ℕ} {f : LexFault} → FaultAfterGap p text f → HasFault octets f → StandsInTokens octets f
 after-stands (Stands.gap g (Stands.quoted q f)) h = quoted-stands f h
 after-stands (Stands.gap g (Stands.data_token f)) h = data-stands f h
 after-stands _ h = h
 
-pub stands_in : {octets : List ℕ} {fault : LexFault} → HasFault octets fault → Stands octets fault
+pub stands_in : {octets : List ℕ} {fault : LexFault} → HasFault octets fault → StandsInTokens octets fault
 stands_in h = after-stands h.stands h
 
 -- any fault but out of memory, of which nothing is stated
-memory_or : (octets : List ℕ) (P : LexFault → Type 0) → ((fault : LexFault) → P fault → Stands octets fault) → (fault : LexFault) → UnlessMemory P fault → Stands octets fault
+memory_or : (octets : List ℕ) (P : LexFault → Type 0) → ((fault : LexFault) → P fault → StandsInTokens octets fault) → (fault : LexFault) → UnlessMemory P fault → StandsInTokens octets fault
 memory_or octets P h OutOfMemory u = tt
 memory_or octets P h (BadUtf8 at) u = h (BadUtf8 at) (u (λ e. cc))
 memory_or octets P h (BadUtf16 at) u = h (BadUtf16 at) (u (λ e. cc))
@@ -147,7 +147,7 @@ memory_or octets P h (OctalRange at) u = h (OctalRange at) (u (λ e. cc))
 memory_or octets P h (OddData at) u = h (OddData at) (u (λ e. cc))
 memory_or octets P h (BadData at) u = h (BadData at) (u (λ e. cc))
 
-pub stands_unless : (octets : List ℕ) (fault : LexFault) → UnlessMemory (HasFault octets) fault → Stands octets fault
+pub stands_unless : (octets : List ℕ) (fault : LexFault) → UnlessMemory (HasFault octets) fault → StandsInTokens octets fault
 stands_unless octets fault u = memory_or octets (HasFault octets) (λ f h. stands_in h) fault u
 
 -- the rest is a suffix of the text
@@ -223,19 +223,19 @@ token_ends (Lexeme.quoted {c = c} q r) = one c (quoted_ends r)
 token_ends (Lexeme.data_token r) = one 60 (octets_ends r)
 
 -- the offset of the rest, from the offset of the text
-place_after : (p : Places) (at : ℕ) (text front rest : List ℕ) → p.end ≡ at + length (octets_of p.encoding text) → text ≡ front ++ rest
-    → place p rest ≡ at + length (octets_of p.encoding front)
+place_after : (p : Offsets) (at : ℕ) (text front rest : List ℕ) → p.end ≡ at + length (octets_of p.encoding text) → text ≡ front ++ rest
+    → offset p rest ≡ at + length (octets_of p.encoding front)
 place_after p at text front rest e t =
     omega (arith, ap length (ap (octets_of p.encoding) t ∙ octets_of-append p.encoding front rest), length-append (octets_of p.encoding front) (octets_of p.encoding rest))
 
 -- the offset of the end of the input, from that of the rest
-end_after : (p : Places) (at : ℕ) (text front rest : List ℕ) → p.end ≡ at + length (octets_of p.encoding text) → text ≡ front ++ rest
-    → p.end ≡ place p rest + length (octets_of p.encoding rest)
+end_after : (p : Offsets) (at : ℕ) (text front rest : List ℕ) → p.end ≡ at + length (octets_of p.encoding text) → text ≡ front ++ rest
+    → p.end ≡ offset p rest + length (octets_of p.encoding rest)
 end_after p at text front rest e t =
     omega (arith, ap length (ap (octets_of p.encoding) t ∙ octets_of-append p.encoding front rest), length-append (octets_of p.encoding front) (octets_of p.encoding rest))
 
-first : (p : Places) (at : ℕ) (text from after : List ℕ) (l : Lexeme) → p.end ≡ at + length (octets_of p.encoding text) → Gap text from → IsToken from l after
-    → StandsFirst p.encoding at (octets_of p.encoding text) (record { lexeme = l; start = place p from; end = place p after }) (octets_of p.encoding after)
+first : (p : Offsets) (at : ℕ) (text from after : List ℕ) (l : Lexeme) → p.end ≡ at + length (octets_of p.encoding text) → Gap text from → IsToken from l after
+    → StandsFirst p.encoding at (octets_of p.encoding text) (record { lexeme = l; start = offset p from; end = offset p after }) (octets_of p.encoding after)
 first p at text from after l e g t =
     let front = gap_ends g in
     let piece = token_ends t in
@@ -252,20 +252,20 @@ first p at text from after l e g t =
           ∙ ap (λ w. octets_of p.encoding front.0 ++ w) (octets_of-append p.encoding piece.0 after);
       others_are = refl;
       start = place_after p at text front.0 from e front.1;
-      end = place_after p (place p from) from piece.0 after (end_after p at text front.0 from e front.1) from_is;
+      end = place_after p (offset p from) from piece.0 after (end_after p at text front.0 from e front.1) from_is;
     }
 
-in_turn : (p : Places) (at : ℕ) {text : List ℕ} {tokens : List Placed} → p.end ≡ at + length (octets_of p.encoding text) → Lexes p text tokens
+in_turn : (p : Offsets) (at : ℕ) {text : List ℕ} {tokens : List Located} → p.end ≡ at + length (octets_of p.encoding text) → Lexes p text tokens
     → StandInTurn p.encoding at (octets_of p.encoding text) tokens
 in_turn p at {text} e (none g) = (text, g, refl)
 in_turn p at {text} e (next {from = from} {after = after} {lexeme = l} g t r) =
     let both = chain (gap_ends g) (token_ends t) in
-    (octets_of p.encoding after, first p at text from after l e g t, in_turn p (place p after) (end_after p at text both.0 after e both.1) r)
+    (octets_of p.encoding after, first p at text from after l e g t, in_turn p (offset p after) (end_after p at text both.0 after e both.1) r)
 
-pub HasTokens-spans : {octets : List ℕ} {tokens : List Placed} → HasTokens octets tokens → HasSpans octets tokens
+pub HasTokens-spans : {octets : List ℕ} {tokens : List Located} → HasTokens octets tokens → HasSpans octets tokens
 HasTokens-spans {octets} {tokens} h = record {
   after = octets_of (encoding_of octets) h.text;
   marked = h.spells.spelled;
-  in_turn = in_turn (places_of octets) (length (mark_of octets))
+  in_turn = in_turn (offsets_of octets) (length (mark_of octets))
       (ap length h.spells.spelled ∙ length-append (mark_of octets) (octets_of (encoding_of octets) h.text)) h.lexes;
 }

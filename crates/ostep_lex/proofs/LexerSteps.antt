@@ -7,12 +7,12 @@ use Rattle.ostep_lex.specs.Character.{slash, star, is_white, is_line_end, is_run
 use Rattle.ostep_lex.specs.Gap
 use Rattle.ostep_lex.specs.Gap.{LineComment, BlockComment, NeverCloses, GapPiece, Gap, closes_comment, begins_gap, begins_comment}
 use Rattle.ostep_lex.specs.declared.cursor.Cursor.{Cursor}
-use Rattle.ostep_lex.specs.Encoding.{place, Places, places_of}
-use Rattle.ostep_lex.specs.Cursor.{ahead, places_in, place_at, SameInput, PassesPiece, PassesGap, PassesToken, Opens, IsAfter, UnlessMemory, PassesStretch, PassesRun, PassesQuoted, AddsToken}
+use Rattle.ostep_lex.specs.Encoding.{offset, Offsets, offsets_of}
+use Rattle.ostep_lex.specs.Cursor.{ahead, offsets_in, offset_at, SameInput, PassesPiece, PassesGap, PassesToken, Opens, IsAfter, UnlessMemory, PassesStretch, PassesRun, PassesQuoted, AddsToken}
 use Rattle.ostep_lex.specs.declared.fault.LexFault.TheVariants.{UnclosedComment, UnexpectedCharacter}
-use Rattle.ostep_lex.specs.Stands.{FaultAt, White, LacksMark, QuotedFault, OctetsFault, begins_other, FaultAfterGap, HasFault, HasXml, begins_xml, Stands}
+use Rattle.ostep_lex.specs.Stands.{FaultAt, White, LacksMark, QuotedFault, OctetsFault, begins_other, FaultAfterGap, HasFault, HasXml, begins_xml, StandsInTokens}
 use Rattle.ostep_lex.specs.Stands
-use Rattle.ostep_lex.specs.Lexeme.{Lexeme, mark_token, IsToken, Placed, placed}
+use Rattle.ostep_lex.specs.Lexeme.{Lexeme, mark_token, IsToken, Located, located}
 use Rattle.ostep_lex.specs.Quoted
 use Rattle.ostep_lex.specs.Quoted.{Run, Quoted}
 use Rattle.ostep_lex.specs.Octets.{Octets}
@@ -77,11 +77,11 @@ piece_block old text new e r i = record {
   shorter = let h = block_shorter r in omega (arith, ap length e, h);
 }
 
-pub comment_fault : (cursor : Cursor) (text : List ℕ) (at : ℕ) → ahead cursor ≡ slash ∷ star ∷ text → NeverCloses text → at ≡ place_at cursor
-    → FaultAt (places_in cursor) (ahead cursor) (UnclosedComment at)
+pub comment_fault : (cursor : Cursor) (text : List ℕ) (at : ℕ) → ahead cursor ≡ slash ∷ star ∷ text → NeverCloses text → at ≡ offset_at cursor
+    → FaultAt (offsets_in cursor) (ahead cursor) (UnclosedComment at)
 comment_fault cursor text at e n p =
-    subst (λ x. FaultAt (places_in cursor) x (UnclosedComment at)) (sym e)
-    (subst (λ q. FaultAt (places_in cursor) (slash ∷ star ∷ text) (UnclosedComment q)) (sym (p ∙ ap (place (places_in cursor)) e)) (Stands.comment n))
+    subst (λ x. FaultAt (offsets_in cursor) x (UnclosedComment at)) (sym e)
+    (subst (λ q. FaultAt (offsets_in cursor) (slash ∷ star ∷ text) (UnclosedComment q)) (sym (p ∙ ap (offset (offsets_in cursor)) e)) (Stands.comment n))
 
 pub white_more : {c : ℕ} {text rest end : List ℕ} → text ≡ c ∷ rest → is_white c ≡ true → White rest end → White text end
 white_more {end = end} e w r = subst (λ x. White x end) (sym e) (Stands.more w r)
@@ -146,16 +146,16 @@ token_quoted c text rest units end e q r = subst (λ x. IsToken x (Lexeme.text u
 pub token_data : (c : ℕ) (text rest octets end : List ℕ) → text ≡ c ∷ rest → c ≡ less_than → Octets rest octets end → IsToken text (Lexeme.octets octets) end
 token_data c text rest octets end e l r = subst (λ x. IsToken x (Lexeme.octets octets) end) (sym (e ∙ ap (λ d. d ∷ rest) l)) (Lexeme.data_token r)
 
-pub quoted_fault : (p : Places) (start c : ℕ) (text rest : List ℕ) (fault : LexFault) → text ≡ c ∷ rest → is_quote c ≡ true → start ≡ place p text
+pub quoted_fault : (p : Offsets) (start c : ℕ) (text rest : List ℕ) (fault : LexFault) → text ≡ c ∷ rest → is_quote c ≡ true → start ≡ offset p text
     → QuotedFault p start c rest fault → FaultAt p text fault
 quoted_fault p start c text rest fault e q a f =
-    subst (λ x. FaultAt p x fault) (sym e) (Stands.quoted q (subst (λ n. QuotedFault p n c rest fault) (a ∙ ap (place p) e) f))
+    subst (λ x. FaultAt p x fault) (sym e) (Stands.quoted q (subst (λ n. QuotedFault p n c rest fault) (a ∙ ap (offset p) e) f))
 
-pub data_fault : (p : Places) (c : ℕ) (text rest : List ℕ) (fault : LexFault) → text ≡ c ∷ rest → c ≡ less_than → OctetsFault p rest fault → FaultAt p text fault
+pub data_fault : (p : Offsets) (c : ℕ) (text rest : List ℕ) (fault : LexFault) → text ≡ c ∷ rest → c ≡ less_than → OctetsFault p rest fault → FaultAt p text fault
 data_fault p c text rest fault e l f = subst (λ x. FaultAt p x fault) (sym (e ∙ ap (λ d. d ∷ rest) l)) (Stands.data_token f)
 
-pub unexpected_fault : (p : Places) (at c : ℕ) (text rest : List ℕ) → text ≡ c ∷ rest → mark_token c ≡ None → is_run c ≡ false → is_quote c ≡ false
-    → (c == less_than) ≡ false → begins_gap text ≡ false → at ≡ place p text → FaultAt p text (UnexpectedCharacter at)
+pub unexpected_fault : (p : Offsets) (at c : ℕ) (text rest : List ℕ) → text ≡ c ∷ rest → mark_token c ≡ None → is_run c ≡ false → is_quote c ≡ false
+    → (c == less_than) ≡ false → begins_gap text ≡ false → at ≡ offset p text → FaultAt p text (UnexpectedCharacter at)
 unexpected_fault p at c text rest e m r q l b a =
     let white = or_left (is_white c) (begins_comment (c ∷ rest)) (ap begins_gap (sym e) ∙ b) in
     let other : begins_other c ≡ false = rw (white, r, q, l) refl in
@@ -189,94 +189,94 @@ token_shorter (Lexeme.quoted q r) = let h = quoted_shorter r in omega (arith, h)
 token_shorter (Lexeme.data_token r) = let h = octets_shorter r in omega (arith, h)
 
 -- a gap and a token with its span
-pub record PassesPlaced (token : Placed) (old new : Cursor) : Type 0 where
+pub record PassesPlaced (token : Located) (old new : Cursor) : Type 0 where
   pub from : List ℕ
   pub gap : Gap (ahead old) from
   pub token_at : IsToken from token.lexeme (ahead new)
-  pub start : token.start ≡ place (places_in old) from
-  pub end : token.end ≡ place (places_in old) (ahead new)
+  pub start : token.start ≡ offset (offsets_in old) from
+  pub end : token.end ≡ offset (offsets_in old) (ahead new)
   pub input : SameInput old new
 
-pub passes_placed : (lexeme : Lexeme) (old start end : Cursor) (a b : ℕ) → PassesGap old start → PassesToken lexeme start end → a ≡ place_at start → b ≡ place_at end
+pub passes_placed : (lexeme : Lexeme) (old start end : Cursor) (a b : ℕ) → PassesGap old start → PassesToken lexeme start end → a ≡ offset_at start → b ≡ offset_at end
     → PassesPlaced (record { lexeme = lexeme; start = a; end = b }) old end
 passes_placed lexeme old start end a b g t e f = record {
   from = ahead start;
   gap = g.gap;
   token_at = t.token;
-  start = e ∙ ap (λ p. place p (ahead start)) g.input;
-  end = f ∙ ap (λ p. place p (ahead end)) (t.input ∙ g.input);
+  start = e ∙ ap (λ p. offset p (ahead start)) g.input;
+  end = f ∙ ap (λ p. offset p (ahead end)) (t.input ∙ g.input);
   input = t.input ∙ g.input;
 }
 
 -- whitespace and a punctuation mark
 pub mark_placed : (c : ℕ) (lexeme : Lexeme) (old start end : Cursor) (a b : ℕ) → White (ahead old) (ahead start) → SameInput old start → ahead start ≡ c ∷ ahead end → SameInput start end
-    → mark_token c ≡ Some lexeme → a ≡ place_at start → b ≡ place_at end → PassesPlaced (record { lexeme = lexeme; start = a; end = b }) old end
+    → mark_token c ≡ Some lexeme → a ≡ offset_at start → b ≡ offset_at end → PassesPlaced (record { lexeme = lexeme; start = a; end = b }) old end
 mark_placed c lexeme old start end a b w i t j m e f = record {
   from = ahead start;
   gap = white_gap w;
   token_at = token_mark c lexeme (ahead start) (ahead end) t m;
-  start = e ∙ ap (λ p. place p (ahead start)) i;
-  end = f ∙ ap (λ p. place p (ahead end)) (j ∙ i);
+  start = e ∙ ap (λ p. offset p (ahead start)) i;
+  end = f ∙ ap (λ p. offset p (ahead end)) (j ∙ i);
   input = j ∙ i;
 }
 
-pub placed_shorter : {token : Placed} {old new : Cursor} → PassesPlaced token old new → length (ahead new) < length (ahead old)
+pub placed_shorter : {token : Located} {old new : Cursor} → PassesPlaced token old new → length (ahead new) < length (ahead old)
 placed_shorter p = let h = gap_shorter p.gap in let k = token_shorter p.token_at in omega (arith, h, k)
 
 -- one token more, all tokens, and a fault
-pub after_more : {octets : List ℕ} {tokens : List Placed} {token : Placed} {old new : Cursor} → IsAfter octets tokens old → PassesPlaced token old new
+pub after_more : {octets : List ℕ} {tokens : List Located} {token : Located} {old new : Cursor} → IsAfter octets tokens old → PassesPlaced token old new
     → IsAfter octets (tokens ++ token ∷ []) new
 after_more {octets} {tokens} {token} {old} {new} b t =
-    let p = places_of octets in
-    let start : token.start ≡ place p t.from = t.start ∙ ap (λ q. place q t.from) b.places in
-    let end : token.end ≡ place p (ahead new) = t.end ∙ ap (λ q. place q (ahead new)) b.places in
+    let p = offsets_of octets in
+    let start : token.start ≡ offset p t.from = t.start ∙ ap (λ q. offset q t.from) b.offsets in
+    let end : token.end ≡ offset p (ahead new) = t.end ∙ ap (λ q. offset q (ahead new)) b.offsets in
     record {
       before = record {
         text = b.before.text;
         spells = b.before.spells;
         lexes = subst (λ a. LexesTo p (ahead new) b.before.text (tokens ++ record { lexeme = token.lexeme; start = a; end = token.end } ∷ [])) (sym start)
-            (subst (λ z. LexesTo p (ahead new) b.before.text (tokens ++ record { lexeme = token.lexeme; start = place p t.from; end = z } ∷ [])) (sym end) (LexesTo-more b.before.lexes t.gap t.token_at));
+            (subst (λ z. LexesTo p (ahead new) b.before.text (tokens ++ record { lexeme = token.lexeme; start = offset p t.from; end = z } ∷ [])) (sym end) (LexesTo-more b.before.lexes t.gap t.token_at));
       };
-      places = t.input ∙ b.places;
+      offsets = t.input ∙ b.offsets;
     }
 
-pub after_all : {octets : List ℕ} {tokens : List Placed} {cursor : Cursor} → IsAfter octets tokens cursor → Gap (ahead cursor) [] → HasTokens octets tokens
+pub after_all : {octets : List ℕ} {tokens : List Located} {cursor : Cursor} → IsAfter octets tokens cursor → Gap (ahead cursor) [] → HasTokens octets tokens
 after_all b g = record { text = b.before.text; spells = b.before.spells; lexes = LexesTo-all b.before.lexes g }
 
-after_at : {octets : List ℕ} {tokens : List Placed} {cursor : Cursor} {fault : LexFault} → IsAfter octets tokens cursor
-    → FaultAfterGap (places_in cursor) (ahead cursor) fault → HasFault octets fault
+after_at : {octets : List ℕ} {tokens : List Located} {cursor : Cursor} {fault : LexFault} → IsAfter octets tokens cursor
+    → FaultAfterGap (offsets_in cursor) (ahead cursor) fault → HasFault octets fault
 after_at {tokens = tokens} {cursor = cursor} {fault = fault} b f = record {
   tokens = tokens;
   rest = ahead cursor;
   before = b.before;
-  stands = subst (λ p. FaultAfterGap p (ahead cursor) fault) b.places f;
+  stands = subst (λ p. FaultAfterGap p (ahead cursor) fault) b.offsets f;
 }
 
-pub after_stands : {octets : List ℕ} {tokens : List Placed} {cursor : Cursor} {fault : LexFault} → IsAfter octets tokens cursor
-    → UnlessMemory (FaultAfterGap (places_in cursor) (ahead cursor)) fault → Stands octets fault
+pub after_stands : {octets : List ℕ} {tokens : List Located} {cursor : Cursor} {fault : LexFault} → IsAfter octets tokens cursor
+    → UnlessMemory (FaultAfterGap (offsets_in cursor) (ahead cursor)) fault → StandsInTokens octets fault
 after_stands {octets} {fault = fault} b u = stands_unless octets fault (λ n. after_at b (u n))
 
-pub after_none : {octets : List ℕ} {tokens : List Placed} {cursor : Cursor} {fault : LexFault} → IsAfter octets tokens cursor
-    → UnlessMemory (FaultAfterGap (places_in cursor) (ahead cursor)) fault → UnlessMemory (λ f. HasNoTokens octets) fault
+pub after_none : {octets : List ℕ} {tokens : List Located} {cursor : Cursor} {fault : LexFault} → IsAfter octets tokens cursor
+    → UnlessMemory (FaultAfterGap (offsets_in cursor) (ahead cursor)) fault → UnlessMemory (λ f. HasNoTokens octets) fault
 after_none b u n = HasFault-none (after_at b (u n))
 
 -- one token more at the end of the tokens found
-pub found_more : (found new : List Token) (token : Token) → new ≡ found ++ token ∷ [] → map placed found ++ placed token ∷ [] ≡ map placed new
-found_more found new token e = sym (ap (map placed) e ∙ map-append placed found (token ∷ []))
+pub found_more : (found new : List Token) (token : Token) → new ≡ found ++ token ∷ [] → map located found ++ located token ∷ [] ≡ map located new
+found_more found new token e = sym (ap (map located) e ∙ map-append located found (token ∷ []))
 
 -- no token precedes the start
 pub opens_after : {octets : List ℕ} {cursor : Cursor} → Opens octets cursor → IsAfter octets [] cursor
-opens_after {cursor = cursor} o = record { before = record { text = ahead cursor; spells = o.spells; lexes = here }; places = o.places }
+opens_after {cursor = cursor} o = record { before = record { text = ahead cursor; spells = o.spells; lexes = here }; offsets = o.offsets }
 
 pub opens_xml : {octets : List ℕ} (cursor after : Cursor) {at : ℕ} → Opens octets cursor → White (ahead cursor) (ahead after) → SameInput cursor after
-    → begins_xml (ahead after) ≡ true → at ≡ place_at after → HasXml octets at
+    → begins_xml (ahead after) ≡ true → at ≡ offset_at after → HasXml octets at
 opens_xml {octets} cursor after {at} o w i b a = record {
   text = ahead cursor;
   spells = o.spells;
   from = ahead after;
   white = w;
   begins = b;
-  stands = a ∙ ap (λ p. place p (ahead after)) (i ∙ o.places);
+  stands = a ∙ ap (λ p. offset p (ahead after)) (i ∙ o.offsets);
 }
 
 pub plain_run : {old new : Cursor} {front : List ℕ} → PassesStretch RunClass old front new → Run (ahead new) [] (ahead new) → PassesRun old new front
@@ -304,12 +304,12 @@ run_gapless c text rest e r s =
 
 -- a gap and a token
 passes : (lexeme : Lexeme) (old start end : Cursor) → Gap (ahead old) (ahead start) → SameInput old start → PassesToken lexeme start end
-    → PassesPlaced (record { lexeme = lexeme; start = place (places_in old) (ahead start); end = place (places_in old) (ahead end) }) old end
+    → PassesPlaced (record { lexeme = lexeme; start = offset (offsets_in old) (ahead start); end = offset (offsets_in old) (ahead end) }) old end
 passes lexeme old start end g i t = record { from = ahead start; gap = g; token_at = t.token; start = refl; end = refl; input = t.input ∙ i }
 
 pub adds_token : (lexeme : Lexeme) (old start end : Cursor) → Gap (ahead old) (ahead start) → SameInput old start → PassesToken lexeme start end → AddsToken lexeme old end
 adds_token lexeme old start end g i t = record {
-  token = record { lexeme = lexeme; start = place (places_in old) (ahead start); end = place (places_in old) (ahead end) };
+  token = record { lexeme = lexeme; start = offset (offsets_in old) (ahead start); end = offset (offsets_in old) (ahead end) };
   is = refl;
   stands = λ octets tokens b. after_more b (passes lexeme old start end g i t);
 }

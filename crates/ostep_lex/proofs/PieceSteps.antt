@@ -13,7 +13,7 @@ use lib.Utf8.{encode}
 use Rattle.ostep_lex.specs.Digits.{number_from, begins_digit, octal_number, hexadecimal_number, Number}
 use Rattle.ostep_lex.specs.Character.{is_run, is_octal, backslash, is_white, is_hexadecimal, greater_than}
 use Rattle.ostep_lex.specs.declared.fault.LexFault.TheVariants.{UnclosedString, BadEscape, OctalRange, BadData, OddData}
-use Rattle.ostep_lex.specs.Encoding.{Places, place}
+use Rattle.ostep_lex.specs.Encoding.{Offsets, offset}
 use Rattle.ostep_lex.specs.Stands
 use Rattle.ostep_lex.specs.Stands.{EscapeFault, QuotedFault, OctetsFault}
 use Rattle.ostep_lex.specs.Quoted
@@ -94,17 +94,17 @@ escape_unit text digits end value e d n =
 pub escape_character : (text rest : List ℕ) (c : ℕ) → text ≡ c ∷ rest → is_octal c ≡ false → (c == unit_letter) ≡ false → Escape text (escaped c) rest
 escape_character text rest c e o u = subst (λ x. Escape x (escaped c) rest) (sym e) (Quoted.character o u)
 
-pub octal_fault : (p : Places) (start at value : ℕ) (text rest end : List ℕ) → text ≡ backslash ∷ rest → begins_digit 8 rest ≡ true
-    → octal_number rest ≡ record { value = value; after = end } → 0x7f < value → at ≡ place p text → EscapeFault p start text (OctalRange at)
+pub octal_fault : (p : Offsets) (start at value : ℕ) (text rest end : List ℕ) → text ≡ backslash ∷ rest → begins_digit 8 rest ≡ true
+    → octal_number rest ≡ record { value = value; after = end } → 0x7f < value → at ≡ offset p text → EscapeFault p start text (OctalRange at)
 octal_fault p start at value text rest end e d n high a =
     let limit : 0x7f < (octal_number rest).value = rw n high in
     rw (a, e) (Stands.too_high d limit)
 
-pub unit_fault : (p : Places) (start at : ℕ) (text letter rest : List ℕ) → text ≡ backslash ∷ letter → letter ≡ unit_letter ∷ rest → begins_digit 16 rest ≡ false
-    → at ≡ place p text → EscapeFault p start text (BadEscape at)
+pub unit_fault : (p : Offsets) (start at : ℕ) (text letter rest : List ℕ) → text ≡ backslash ∷ letter → letter ≡ unit_letter ∷ rest → begins_digit 16 rest ≡ false
+    → at ≡ offset p text → EscapeFault p start text (BadEscape at)
 unit_fault p start at text letter rest e l d a = rw (a, e, l) (Stands.no_digit d)
 
-pub cut_fault : (p : Places) (start : ℕ) (text rest : List ℕ) → text ≡ backslash ∷ rest → rest ≡ [] → EscapeFault p start text (UnclosedString start)
+pub cut_fault : (p : Offsets) (start : ℕ) (text rest : List ℕ) → text ≡ backslash ∷ rest → rest ≡ [] → EscapeFault p start text (UnclosedString start)
 cut_fault p start text rest e r = rw (e, r) Stands.cut_escape
 
 number_shorter : (base count high : ℕ) (text : List ℕ) → length (number_from base count high text).after ≤ length text
@@ -136,7 +136,7 @@ piece_escape mark c text rest units end e b r =
 pub quoted_close : (mark c : ℕ) (text rest : List ℕ) → text ≡ c ∷ rest → (c == mark) ≡ true → Quoted mark text [] rest
 quoted_close mark c text rest e m = subst (λ x. Quoted mark x [] rest) (sym e) (Quoted.close m)
 
-pub cut_string_fault : (p : Places) (start mark : ℕ) (text : List ℕ) → text ≡ [] → QuotedFault p start mark text (UnclosedString start)
+pub cut_string_fault : (p : Offsets) (start mark : ℕ) (text : List ℕ) → text ≡ [] → QuotedFault p start mark text (UnclosedString start)
 cut_string_fault p start mark text e = subst (λ x. QuotedFault p start mark x (UnclosedString start)) (sym e) Stands.cut_string
 
 pub piece_white : (c : ℕ) (text rest : List ℕ) → text ≡ c ∷ rest → is_white c ≡ true → OctetsPiece text [] rest
@@ -156,16 +156,16 @@ octets_piece_shorter (Octets.pair h i) = omega arith
 none_of_data : (c : ℕ) → is_white c ≡ false → is_hexadecimal c ≡ false → (c == greater_than) ≡ false → Stands.is_of_data c ≡ false
 none_of_data c w h g = rw (w, h, g) refl
 
-pub other_fault : (p : Places) (at c : ℕ) (text rest : List ℕ) → text ≡ c ∷ rest → is_white c ≡ false → begins_digit 16 text ≡ false → (c == greater_than) ≡ false
-    → at ≡ place p text → OctetsFault p text (BadData at)
+pub other_fault : (p : Offsets) (at c : ℕ) (text rest : List ℕ) → text ≡ c ∷ rest → is_white c ≡ false → begins_digit 16 text ≡ false → (c == greater_than) ≡ false
+    → at ≡ offset p text → OctetsFault p text (BadData at)
 other_fault p at c text rest e w h g a =
     rw (a, e) (Stands.other (none_of_data c w (ap (begins_digit 16) (sym e) ∙ h) g))
 
-pub odd_fault : (p : Places) (at c : ℕ) (text rest : List ℕ) → text ≡ c ∷ rest → is_hexadecimal c ≡ true → begins_digit 16 rest ≡ false
-    → at ≡ place p text → OctetsFault p text (OddData at)
+pub odd_fault : (p : Offsets) (at c : ℕ) (text rest : List ℕ) → text ≡ c ∷ rest → is_hexadecimal c ≡ true → begins_digit 16 rest ≡ false
+    → at ≡ offset p text → OctetsFault p text (OddData at)
 odd_fault p at c text rest e h d a = rw (a, e) (Stands.odd h d)
 
-pub cut_data_fault : (p : Places) (at : ℕ) (text : List ℕ) → text ≡ [] → at ≡ place p text → OctetsFault p text (BadData at)
+pub cut_data_fault : (p : Offsets) (at : ℕ) (text : List ℕ) → text ≡ [] → at ≡ offset p text → OctetsFault p text (BadData at)
 cut_data_fault p at text e a = rw (a, e) Stands.cut_data
 
 ascii : (c : ℕ) → is_hexadecimal c ≡ true → c < 128
@@ -243,17 +243,17 @@ octets_front : {digits values : List ℕ} (rest more end : List ℕ) → Pairs d
 octets_front rest more end Pairs.none r = r
 octets_front rest more end (Pairs.more h l p) r = Octets.piece (Octets.pair h l) (octets_front rest more end p r)
 
-fault_front : {digits values : List ℕ} (places : Places) (rest : List ℕ) (fault : LexFault) → Pairs digits values → OctetsFault places rest fault → OctetsFault places (digits ++ rest) fault
-fault_front places rest fault Pairs.none r = r
-fault_front places rest fault (Pairs.more h l p) r = Stands.piece (Octets.pair h l) (fault_front places rest fault p r)
+fault_front : {digits values : List ℕ} (offsets : Offsets) (rest : List ℕ) (fault : LexFault) → Pairs digits values → OctetsFault offsets rest fault → OctetsFault offsets (digits ++ rest) fault
+fault_front offsets rest fault Pairs.none r = r
+fault_front offsets rest fault (Pairs.more h l p) r = Stands.piece (Octets.pair h l) (fault_front offsets rest fault p r)
 
 pub octets_pairs : {octets appended text after : List ℕ} {more end : List ℕ} (a : AppendsPairs octets appended text after) → Octets after more end
     → Octets text (a.values ++ more) end
 octets_pairs {after = after} {more} {end} a r = subst (λ t. Octets t (a.values ++ more) end) (sym a.split) (octets_front after more end a.pairs r)
 
-pub fault_pairs : {places : Places} {octets appended text after : List ℕ} {fault : LexFault} → AppendsPairs octets appended text after
-    → OctetsFault places after fault → OctetsFault places text fault
-fault_pairs {places} {after = after} {fault} a r = subst (λ t. OctetsFault places t fault) (sym a.split) (fault_front places after fault a.pairs r)
+pub fault_pairs : {offsets : Offsets} {octets appended text after : List ℕ} {fault : LexFault} → AppendsPairs octets appended text after
+    → OctetsFault offsets after fault → OctetsFault offsets text fault
+fault_pairs {offsets} {after = after} {fault} a r = subst (λ t. OctetsFault offsets t fault) (sym a.split) (fault_front offsets after fault a.pairs r)
 
 pub pairs_shorter : {octets more : List ℕ} {old new : Cursor} → PassesPairs octets more old new → length (ahead new) ≤ length (ahead old)
 pairs_shorter {octets} {more} {old} {new} p = omega (arith, length-append p.passes.digits (ahead new), ap length p.passes.split)

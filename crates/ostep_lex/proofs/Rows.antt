@@ -4,21 +4,21 @@ use Rattle.std.specs.Prelude.{codes}
 use Rattle.std.specs.Char.{encode_utf8}
 use Rattle.ostep_lex.specs.declared.fault.LexFault.{LexFault}
 use Rattle.ostep_lex.specs.declared.fault.LexFault.TheVariants.{UnexpectedCharacter, OctalRange, OddData, BadData, BadEscape, UnclosedString, UnclosedComment}
-use Rattle.ostep_lex.specs.Encoding.{Spells, places_of}
+use Rattle.ostep_lex.specs.Encoding.{Spells, offsets_of}
 use Rattle.ostep_lex.specs.Gap
 use Rattle.ostep_lex.specs.Quoted
 use Rattle.ostep_lex.specs.Octets
 use Rattle.ostep_lex.specs.Lexeme
-use Rattle.ostep_lex.specs.Lexeme.{Lexeme, Placed, brace_open, brace_close, paren_open, paren_close, comma, semicolon, equals, text, octets}
+use Rattle.ostep_lex.specs.Lexeme.{Lexeme, Located, brace_open, brace_close, paren_open, paren_close, comma, semicolon, equals, text, octets}
 use Rattle.ostep_lex.specs.Lexing.{HasTokens, none, next, here, token}
 use Rattle.ostep_lex.specs.Stands
 use Rattle.ostep_lex.specs.Stands.{FaultAt, HasFault, HasXml}
 
-abbrev pub at : Lexeme → ℕ → ℕ → Placed
+abbrev pub at : Lexeme → ℕ → ℕ → Located
 at lexeme start end = record { lexeme = lexeme; start = start; end = end }
 
 -- a fault in the first token
-first_at : {bytes : List ℕ} {fault : LexFault} (rest : List ℕ) → Spells bytes rest → FaultAt (places_of bytes) rest fault → HasFault bytes fault
+first_at : {bytes : List ℕ} {fault : LexFault} (rest : List ℕ) → Spells bytes rest → FaultAt (offsets_of bytes) rest fault → HasFault bytes fault
 first_at rest spells stands = record {
   tokens = [];
   rest = rest;

@@ -14,7 +14,7 @@ use Rattle.ostep_lex.specs.Stretch.{belongs, is_stretch, BeginsWithStretch, Lead
 use Rattle.ostep_lex.specs.declared.source.Source.{Source}
 use Rattle.ostep_lex.specs.declared.source.Source.TheVariants.{Utf8, Utf16}
 use Rattle.ostep_lex.specs.declared.source.ByteOrder.{ByteOrder}
-use Rattle.ostep_lex.specs.Encoding.{spelling, octets_of, Places}
+use Rattle.ostep_lex.specs.Encoding.{spelling, octets_of, Offsets}
 use Rattle.ostep_lex.specs.Source.{encoding_by, unit_octets, units_in, utf16_characters, IsWhole}
 use Rattle.ostep_lex.specs.declared.stretch.Class.TheVariants.{Run, White, Raw, Line, Starless}
 use Rattle.ostep_lex.specs.declared.cursor.Cursor.{Cursor}
@@ -26,7 +26,7 @@ use Rattle.ostep_lex.specs.Quoted
 use Rattle.ostep_lex.specs.Quoted.{Run as RunOf, Quoted, Piece, is_raw}
 use Rattle.ostep_lex.specs.Stands
 use Rattle.ostep_lex.specs.Stands.{QuotedFault, FaultAfterGap}
-use Rattle.ostep_lex.specs.Cursor.{ahead, places_in, PassesStretch, SkipsStretch, PassesGap}
+use Rattle.ostep_lex.specs.Cursor.{ahead, offsets_in, PassesStretch, SkipsStretch, PassesGap}
 use Rattle.ostep_lex.proofs.TextLemmas.{and_left, and_right, whole_utf8, octets_of-append, WholeText, WholeText-after, spelling_one, utf16_characters-spelling, units_in-first}
 
 pub stretch_none : (kind : Class) (octets : List ℕ) → BeginsWithStretch kind octets octets
@@ -207,7 +207,7 @@ quoted_front mark (c ∷ cs) rest more end s r =
     let small = low c (is_raw mark c) (and_left (nat_lt c 0xD800 && is_raw mark c) (is_stretch 0xD800 (Raw mark) cs) s) in
     subst (λ us. Quoted mark (c ∷ (cs ++ rest)) (us ++ (cs ++ more)) end) (one_unit c small) (Quoted.piece (Quoted.raw (here (Raw mark) c cs s)) h)
 
-fault_front : (p : Places) (start mark : ℕ) (front rest : List ℕ) (fault : LexFault) → is_stretch 0xD800 (Raw mark) front ≡ true → QuotedFault p start mark rest fault
+fault_front : (p : Offsets) (start mark : ℕ) (front rest : List ℕ) (fault : LexFault) → is_stretch 0xD800 (Raw mark) front ≡ true → QuotedFault p start mark rest fault
     → QuotedFault p start mark (front ++ rest) fault
 fault_front p start mark [] rest fault s r = r
 fault_front p start mark (c ∷ cs) rest fault s r = Stands.piece (Quoted.raw (here (Raw mark) c cs s)) (fault_front p start mark cs rest fault (rest_of (Raw mark) c cs s) r)
@@ -243,10 +243,10 @@ pub quoted_stretch : {mark : ℕ} {old new : Cursor} {front more end : List ℕ}
 quoted_stretch {mark} {old} {new} {front} {more} {end} p r =
     subst (λ t. Quoted mark t (front ++ more) end) (sym p.text) (quoted_front mark front (ahead new) more end p.stretch r)
 
-pub fault_stretch : {places : Places} {start mark : ℕ} {old new : Cursor} {front : List ℕ} {fault : LexFault} → PassesStretch (Raw mark) old front new
-    → QuotedFault places start mark (ahead new) fault → QuotedFault places start mark (ahead old) fault
-fault_stretch {places} {start} {mark} {old} {new} {front} {fault} p r =
-    subst (λ t. QuotedFault places start mark t fault) (sym p.text) (fault_front places start mark front (ahead new) fault p.stretch r)
+pub fault_stretch : {offsets : Offsets} {start mark : ℕ} {old new : Cursor} {front : List ℕ} {fault : LexFault} → PassesStretch (Raw mark) old front new
+    → QuotedFault offsets start mark (ahead new) fault → QuotedFault offsets start mark (ahead old) fault
+fault_stretch {offsets} {start} {mark} {old} {new} {front} {fault} p r =
+    subst (λ t. QuotedFault offsets start mark t fault) (sym p.text) (fault_front offsets start mark front (ahead new) fault p.stretch r)
 
 pub gap_stretch : {old new : Cursor} {front end : List ℕ} → PassesStretch White old front new → Gap (ahead new) end → Gap (ahead old) end
 gap_stretch {old} {new} {front} {end} p r = subst (λ t. Gap t end) (sym p.text) (gap_front front (ahead new) end p.stretch r)
@@ -256,10 +256,10 @@ pub gap_after_white : {old new end : Cursor} → SkipsStretch White old new → 
 gap_after_white white passes =
     record { gap = gap_stretch white.passes passes.gap; whole = passes.whole; input = passes.input ∙ white.passes.input }
 
-fault_in_gap : {old new : Cursor} {front : List ℕ} {p : Places} {fault : LexFault} → PassesStretch White old front new → FaultAfterGap p (ahead new) fault → FaultAfterGap p (ahead old) fault
+fault_in_gap : {old new : Cursor} {front : List ℕ} {p : Offsets} {fault : LexFault} → PassesStretch White old front new → FaultAfterGap p (ahead new) fault → FaultAfterGap p (ahead old) fault
 fault_in_gap white (Stands.gap after at) = Stands.gap (gap_stretch white after) at
 
-pub fault_after_white : {old new : Cursor} {fault : LexFault} → SkipsStretch White old new → FaultAfterGap (places_in new) (ahead new) fault → FaultAfterGap (places_in old) (ahead old) fault
+pub fault_after_white : {old new : Cursor} {fault : LexFault} → SkipsStretch White old new → FaultAfterGap (offsets_in new) (ahead new) fault → FaultAfterGap (offsets_in old) (ahead old) fault
 fault_after_white {old} {new} {fault} white stands =
     subst (λ p. FaultAfterGap p (ahead old) fault) white.passes.input (fault_in_gap white.passes stands)
 

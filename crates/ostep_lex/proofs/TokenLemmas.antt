@@ -4,11 +4,11 @@ use Rattle.std.proofs.Common.{ℕ, Bool, true, false, ◌≡◌, ◌||◌, Some,
 use Rattle.std.proofs.lemmas.Bool.Decides.{nat_tests}
 use Rattle.ostep_lex.specs.Character.{is_white, is_run, is_quote, is_hexadecimal, backslash, greater_than}
 use Rattle.ostep_lex.specs.Quoted.{is_raw, Run, Escape, Piece, Quoted}
-use Rattle.ostep_lex.specs.Lexeme.{Lexeme, mark_token, IsToken, Placed}
+use Rattle.ostep_lex.specs.Lexeme.{Lexeme, mark_token, IsToken, Located}
 use Rattle.ostep_lex.specs.Stands.{is_of_data, begins_other, EscapeFault, QuotedFault, OctetsFault, FaultAt, FaultAfterGap}
 use Rattle.ostep_lex.specs.Gap.{LineComment, BlockComment, NeverCloses, GapPiece, Gap}
 use Rattle.ostep_lex.specs.declared.fault.LexFault.{LexFault}
-use Rattle.ostep_lex.specs.Encoding.{Places, place}
+use Rattle.ostep_lex.specs.Encoding.{Offsets, offset}
 use Rattle.ostep_lex.specs.Digits.{begins_digit, octal_number}
 use Rattle.ostep_lex.specs.Gap
 use Rattle.ostep_lex.specs.Quoted
@@ -234,7 +234,7 @@ nothing-escape (Quoted.octal e l) = cc
 nothing-piece_of_string : {mark : ℕ} {u a : List ℕ} → Piece mark [] u a → ⊥
 nothing-piece_of_string r = elim r [ ]
 
-Piece-fault : {p : Places} {start mark : ℕ} {text u a : List ℕ} {f : LexFault} → EscapeFault p start text f → Piece mark text u a → ⊥
+Piece-fault : {p : Offsets} {start mark : ℕ} {text u a : List ℕ} {f : LexFault} → EscapeFault p start text f → Piece mark text u a → ⊥
 Piece-fault Stands.cut_escape (Quoted.raw e) = cc
 Piece-fault Stands.cut_escape (Quoted.escape r) = nothing-escape r
 Piece-fault (Stands.no_digit d) (Quoted.raw e) = cc
@@ -242,12 +242,12 @@ Piece-fault (Stands.no_digit d) (Quoted.escape r) = no_digit-escape d r
 Piece-fault (Stands.too_high d h) (Quoted.raw e) = cc
 Piece-fault (Stands.too_high d h) (Quoted.escape r) = too_high-escape d h r
 
-close-fault : (mark : ℕ) {p : Places} {start c : ℕ} {rest : List ℕ} {f : LexFault} → is_quote mark ≡ true → (c == mark) ≡ true → EscapeFault p start (c ∷ rest) f → ⊥
+close-fault : (mark : ℕ) {p : Offsets} {start c : ℕ} {rest : List ℕ} {f : LexFault} → is_quote mark ≡ true → (c == mark) ≡ true → EscapeFault p start (c ∷ rest) f → ⊥
 close-fault mark q e Stands.cut_escape = quote-backslash mark q e
 close-fault mark q e _ = quote-backslash mark q e
 
 -- a faulty quoted string is no quoted string
-pub Quoted-fault : {p : Places} {start mark : ℕ} {text u a : List ℕ} {f : LexFault} → is_quote mark ≡ true → QuotedFault p start mark text f → Quoted mark text u a → ⊥
+pub Quoted-fault : {p : Offsets} {start mark : ℕ} {text u a : List ℕ} {f : LexFault} → is_quote mark ≡ true → QuotedFault p start mark text f → Quoted mark text u a → ⊥
 Quoted-fault q Stands.cut_string (Quoted.piece e r) = nothing-piece_of_string e
 Quoted-fault {mark = mark} q (Stands.escape d) (Quoted.close e) = close-fault mark q e d
 Quoted-fault q (Stands.escape d) (Quoted.piece e r) = Piece-fault d e
@@ -267,7 +267,7 @@ odd-octets {c} e d (Octets.white f) = white-hexadecimal c f e
 odd-octets e d (Octets.pair f g) = cc
 
 -- a faulty data token is no data token
-pub Octets-fault : {p : Places} {text u a : List ℕ} {f : LexFault} → OctetsFault p text f → Octets text u a → ⊥
+pub Octets-fault : {p : Offsets} {text u a : List ℕ} {f : LexFault} → OctetsFault p text f → Octets text u a → ⊥
 Octets-fault Stands.cut_data (Octets.piece e r) = nothing-octets e
 Octets-fault (Stands.other e) Octets.close = cc
 Octets-fault (Stands.other e) (Octets.piece f r) = other-octets e f
@@ -278,7 +278,7 @@ Octets-fault {a = a} (Stands.piece e f) (Octets.piece {more = us} g r) =
     Octets-fault f (subst (λ x. Octets x us a) (OctetsPiece-same g e).leaves r)
 
 -- no token, no whitespace and no complete comment begins at a fault
-pub IsToken-fault : {p : Places} {from after : List ℕ} {l : Lexeme} {f : LexFault} → FaultAt p from f → IsToken from l after → ⊥
+pub IsToken-fault : {p : Offsets} {from after : List ℕ} {l : Lexeme} {f : LexFault} → FaultAt p from f → IsToken from l after → ⊥
 IsToken-fault (Stands.unexpected e o) (Lexeme.mark f) = cc
 IsToken-fault (Stands.unexpected {c = c} e o) (Lexeme.run f g r) = unexpected-run c o f
 IsToken-fault (Stands.unexpected {c = c} e o) (Lexeme.quoted f r) = unexpected-quote c o f
@@ -295,7 +295,7 @@ IsToken-fault (Stands.data_token n) (Lexeme.run f g r) = cc
 IsToken-fault (Stands.data_token n) (Lexeme.quoted f r) = cc
 IsToken-fault (Stands.data_token n) (Lexeme.data_token r) = Octets-fault n r
 
-fault-piece : {p : Places} {from b : List ℕ} {f : LexFault} → FaultAt p from f → GapPiece from b → ⊥
+fault-piece : {p : Offsets} {from b : List ℕ} {f : LexFault} → FaultAt p from f → GapPiece from b → ⊥
 fault-piece (Stands.unexpected {c = c} e o) (Gap.white f) = unexpected-white c o f
 fault-piece (Stands.unexpected e o) (Gap.line s) = cc
 fault-piece (Stands.unexpected e o) (Gap.block s) = cc
@@ -306,10 +306,10 @@ fault-piece (Stands.quoted e n) (Gap.line s) = cc
 fault-piece (Stands.quoted e n) (Gap.block s) = cc
 fault-piece (Stands.data_token n) (Gap.white f) = cc
 
-pub FaultAt-gapless : {p : Places} {from : List ℕ} {f : LexFault} → FaultAt p from f → IsGapless from
+pub FaultAt-gapless : {p : Offsets} {from : List ℕ} {f : LexFault} → FaultAt p from f → IsGapless from
 FaultAt-gapless e x g = fault-piece e g
 
-pub FaultAt-nothing : {p : Places} {f : LexFault} → FaultAt p [] f → ⊥
+pub FaultAt-nothing : {p : Offsets} {f : LexFault} → FaultAt p [] f → ⊥
 FaultAt-nothing e = elim e [ ]
 
 pub IsToken-nothing : {after : List ℕ} {l : Lexeme} → IsToken [] l after → ⊥
@@ -328,16 +328,16 @@ end-token {after = after} {l = l} g h t =
     IsToken-nothing (subst (λ x. IsToken x l after) (sym (Gap-same g h nothing-gapless (IsToken-gapless t))) t)
 
 -- no fault follows a gap at the end of the text
-pub end-fault : {p : Places} {text from : List ℕ} {f : LexFault} → Gap text [] → Gap text from → FaultAt p from f → ⊥
+pub end-fault : {p : Offsets} {text from : List ℕ} {f : LexFault} → Gap text [] → Gap text from → FaultAt p from f → ⊥
 end-fault {p} {f = f} g h t =
     FaultAt-nothing (subst (λ x. FaultAt p x f) (sym (Gap-same g h nothing-gapless (FaultAt-gapless t))) t)
 
 -- no token begins at a fault after a gap
-pub token-fault : {p : Places} {text from here after : List ℕ} {l : Lexeme} {f : LexFault} → Gap text from → FaultAt p from f → Gap text here → IsToken here l after → ⊥
+pub token-fault : {p : Offsets} {text from here after : List ℕ} {l : Lexeme} {f : LexFault} → Gap text from → FaultAt p from f → Gap text here → IsToken here l after → ⊥
 token-fault {after = after} {l = l} g t h u =
     IsToken-fault t (subst (λ x. IsToken x l after) (sym (Gap-same g h (FaultAt-gapless t) (IsToken-gapless u))) u)
 
-pub Lexes-same : {p : Places} {text : List ℕ} {ts us : List Placed} → Lexes p text ts → Lexes p text us → ts ≡ us
+pub Lexes-same : {p : Offsets} {text : List ℕ} {ts us : List Located} → Lexes p text ts → Lexes p text us → ts ≡ us
 Lexes-same (none g) (none h) = refl
 Lexes-same (none g) (next h u s) = absurd (end-token g h u)
 Lexes-same (next g t r) (none h) = absurd (end-token h g t)
@@ -345,15 +345,15 @@ Lexes-same {p} (next g t r) (next {tokens = us} h u s) =
     let e = next-same g t h u in
     cc (e.0, e.1.means, e.1.leaves, Lexes-same r (subst (λ x. Lexes p x us) (sym e.1.leaves) s))
 
-pub after-fault : {p q : Places} {text : List ℕ} {f : LexFault} {ts : List Placed} → FaultAfterGap p text f → Lexes q text ts → ⊥
+pub after-fault : {p q : Offsets} {text : List ℕ} {f : LexFault} {ts : List Located} → FaultAfterGap p text f → Lexes q text ts → ⊥
 after-fault (Stands.gap g t) (none h) = end-fault h g t
 after-fault (Stands.gap g t) (next h u s) = token-fault g t h u
 
-abbrev pub Continuing : Places → List ℕ → List Placed → List Placed → Type 0
-Continuing p rest tokens all = (others : List Placed) × (all ≡ tokens ++ others) × Lexes p rest others
+abbrev pub Continuing : Offsets → List ℕ → List Located → List Located → Type 0
+Continuing p rest tokens all = (others : List Located) × (all ≡ tokens ++ others) × Lexes p rest others
 
 -- the tokens at the start of a text are the first of all its tokens
-pub LexesTo-continue : {p : Places} {rest text : List ℕ} {tokens all : List Placed} → LexesTo p rest text tokens → Lexes p text all → Continuing p rest tokens all
+pub LexesTo-continue : {p : Offsets} {rest text : List ℕ} {tokens all : List Located} → LexesTo p rest text tokens → Lexes p text all → Continuing p rest tokens all
 LexesTo-continue {all = all} here l = (all, refl, l)
 LexesTo-continue (token g t r) (none h) = absurd (end-token h g t)
 LexesTo-continue {p} (token g t r) (next {tokens = us} h u s) =
@@ -362,11 +362,11 @@ LexesTo-continue {p} (token g t r) (next {tokens = us} h u s) =
     (c.0, cc (e.0, e.1.means, e.1.leaves, c.1), c.2)
 
 -- one more token, and all tokens
-pub LexesTo-more : {p : Places} {rest from after text : List ℕ} {lexeme : Lexeme} {tokens : List Placed} → LexesTo p rest text tokens → Gap rest from → IsToken from lexeme after
-    → LexesTo p after text (tokens ++ record { lexeme = lexeme; start = place p from; end = place p after } ∷ [])
+pub LexesTo-more : {p : Offsets} {rest from after text : List ℕ} {lexeme : Lexeme} {tokens : List Located} → LexesTo p rest text tokens → Gap rest from → IsToken from lexeme after
+    → LexesTo p after text (tokens ++ record { lexeme = lexeme; start = offset p from; end = offset p after } ∷ [])
 LexesTo-more here g t = token g t here
 LexesTo-more (token h u r) g t = token h u (LexesTo-more r g t)
 
-pub LexesTo-all : {p : Places} {rest text : List ℕ} {tokens : List Placed} → LexesTo p rest text tokens → Gap rest [] → Lexes p text tokens
+pub LexesTo-all : {p : Offsets} {rest text : List ℕ} {tokens : List Located} → LexesTo p rest text tokens → Gap rest [] → Lexes p text tokens
 LexesTo-all here g = none g
 LexesTo-all (token h u r) g = next h u (LexesTo-all r g)

@@ -1,14 +1,14 @@
 -- The position of a cursor.
 use Rattle.std.specs.Prelude.{◌≡◌, ℕ, ◌<◌, Bool, true, false, ◌==◌, List, [], ◌∷◌, ◌++◌, length}
 use Rattle.ostep_lex.specs.declared.cursor.Cursor.{Cursor}
-use Rattle.ostep_lex.specs.Encoding.{Encoding, Places, place, places_of, octets_of, Spells}
+use Rattle.ostep_lex.specs.Encoding.{Encoding, Offsets, offset, offsets_of, octets_of, Spells}
 use Rattle.ostep_lex.specs.Lexing.{BeginsWithTokens}
 use Rattle.std.specs.Str.{all_scalars}
 use Rattle.ostep_lex.specs.declared.fault.LexFault.{LexFault}
 use Rattle.ostep_lex.specs.declared.fault.LexFault.TheVariants.{BadUtf8, BadUtf16, OutOfMemory}
 use Rattle.std.specs.Char.{digit_value}
 use Rattle.ostep_lex.specs.Character.{is_hexadecimal}
-use Rattle.ostep_lex.specs.Lexeme.{Lexeme, IsToken, Placed}
+use Rattle.ostep_lex.specs.Lexeme.{Lexeme, IsToken, Located}
 use Rattle.ostep_lex.specs.Quoted.{Escape, Piece, Quoted, Run}
 use Rattle.ostep_lex.specs.Octets.{OctetsPiece, Octets}
 use Rattle.ostep_lex.specs.Gap.{GapPiece, Gap, begins_gap}
@@ -22,40 +22,40 @@ unfoldable pub ahead : Cursor → List ℕ
 ahead cursor = characters_in cursor.source
 
 -- what the offsets of its input depend on
-unfoldable pub places_in : Cursor → Places
-places_in cursor = record { encoding = encoding_in cursor.source; end = cursor.end }
+unfoldable pub offsets_in : Cursor → Offsets
+offsets_in cursor = record { encoding = encoding_in cursor.source; end = cursor.end }
 
 -- the offset of the cursor
-abbrev pub place_at : Cursor → ℕ
-place_at cursor = place (places_in cursor) (ahead cursor)
+abbrev pub offset_at : Cursor → ℕ
+offset_at cursor = offset (offsets_in cursor) (ahead cursor)
 
 -- another position in the same input
 abbrev pub SameInput : Cursor → Cursor → Type 0
-SameInput old new = places_in new ≡ places_in old
+SameInput old new = offsets_in new ≡ offsets_in old
 
 -- the cursor is at the start of all characters of the bytes, which are the end of an input of `end`
 -- bytes
 pub record Holds (e : Encoding) (octets : List ℕ) (end : ℕ) (cursor : Cursor) : Type 0 where
   pub scalars : all_scalars (ahead cursor) ≡ true
   pub spelled : octets ≡ octets_of e (ahead cursor)
-  pub places : places_in cursor ≡ record { encoding = e; end = end }
+  pub offsets : offsets_in cursor ≡ record { encoding = e; end = end }
 
 -- the cursor is at the start of the text of the input
 pub record Opens (octets : List ℕ) (cursor : Cursor) : Type 0 where
   pub spells : Spells octets (ahead cursor)
-  pub places : places_in cursor ≡ places_of octets
+  pub offsets : offsets_in cursor ≡ offsets_of octets
 
 -- the cursor is after these tokens of the input
-pub record IsAfter (octets : List ℕ) (tokens : List Placed) (cursor : Cursor) : Type 0 where
+pub record IsAfter (octets : List ℕ) (tokens : List Located) (cursor : Cursor) : Type 0 where
   pub before : BeginsWithTokens octets tokens (ahead cursor)
-  pub places : places_in cursor ≡ places_of octets
+  pub offsets : offsets_in cursor ≡ offsets_of octets
 
 -- after any tokens of an input at the old cursor, there is one more at the new cursor, which is
 -- this lexeme
 pub record AddsToken (lexeme : Lexeme) (old new : Cursor) : Type 0 where
-  pub token : Placed
+  pub token : Located
   pub is : token.lexeme ≡ lexeme
-  pub stands : (octets : List ℕ) (tokens : List Placed) → IsAfter octets tokens old
+  pub stands : (octets : List ℕ) (tokens : List Located) → IsAfter octets tokens old
       → IsAfter octets (tokens ++ token ∷ []) new
 
 -- whether the text begins with the character

@@ -61,16 +61,16 @@ pub record Spells (octets text : List ℕ) : Type 0 where
   pub spelled : octets ≡ mark_of octets ++ octets_of (encoding_of octets) text
 
 -- what the offsets of an input depend on
-pub record Places : Type 0 where
+pub record Offsets : Type 0 where
   pub encoding : Encoding
   pub end : ℕ
 
-abbrev pub places_of : List ℕ → Places
-places_of octets = record { encoding = encoding_of octets; end = length octets }
+abbrev pub offsets_of : List ℕ → Offsets
+offsets_of octets = record { encoding = encoding_of octets; end = length octets }
 
 -- the offset at which the rest of a text begins, counted from the end
-abbrev pub place : Places → List ℕ → ℕ
-place p rest = p.end - length (octets_of p.encoding rest)
+abbrev pub offset : Offsets → List ℕ → ℕ
+offset p rest = p.end - length (octets_of p.encoding rest)
 
 -- the bytes are a character followed by other bytes; or no character is at their start
 pub record BeginsWith (e : Encoding) (octets : List ℕ) (c : ℕ) (after : List ℕ) : Type 0 where

@@ -49,7 +49,7 @@ pub data IsToken : List ℕ → Lexeme → List ℕ → Type 0 where
       → IsToken (less_than ∷ rest) (octets bytes) after
 
 -- a token, with the offset of its first byte and the offset after its last
-pub record Placed : Type 0 where
+pub record Located : Type 0 where
   pub lexeme : Lexeme
   pub start : ℕ
   pub end : ℕ
@@ -66,9 +66,9 @@ lexeme_of Equals = equals
 lexeme_of (Text units) = text units
 lexeme_of (OctetsKind bytes) = octets bytes.items
 
-abbrev pub placed : Token → Placed
-placed token = record { lexeme = lexeme_of token.kind; start = token.start; end = token.end }
+abbrev pub located : Token → Located
+located token = record { lexeme = lexeme_of token.kind; start = token.start; end = token.end }
 
-abbrev pub placed_plain : PlainToken → Placed
+abbrev pub placed_plain : PlainToken → Located
 placed_plain token =
     record { lexeme = text (units_of token.text); start = token.start; end = token.end }

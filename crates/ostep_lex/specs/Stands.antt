@@ -9,27 +9,28 @@ use Rattle.ostep_lex.specs.declared.fault.LexFault.TheVariants.{UnexpectedCharac
 use Rattle.ostep_lex.specs.declared.fault.LexFault.TheVariants.{UnclosedComment, BadEscape}
 use Rattle.ostep_lex.specs.declared.fault.LexFault.TheVariants.{OctalRange, OddData, BadData}
 use Rattle.ostep_lex.specs.declared.fault.LexFault.TheVariants.{BadUtf16, OutOfMemory}
-use Rattle.ostep_lex.specs.Encoding.{Spells, Places, places_of, place, StopsAt, encoding_of, utf8}
+use Rattle.ostep_lex.specs.Encoding.{Spells, Offsets, offsets_of}
+use Rattle.ostep_lex.specs.Encoding.{offset, StopsAt, encoding_of, utf8}
 use Rattle.ostep_lex.specs.Character.{slash, star, less_than, greater_than, backslash, is_white}
 use Rattle.ostep_lex.specs.Character.{is_run, is_quote, is_hexadecimal}
 use Rattle.ostep_lex.specs.Digits.{begins_digit, octal_number}
 use Rattle.ostep_lex.specs.Gap.{Gap, NeverCloses}
 use Rattle.ostep_lex.specs.Quoted.{unit_letter, Piece}
 use Rattle.ostep_lex.specs.Octets.{OctetsPiece}
-use Rattle.ostep_lex.specs.Lexeme.{Lexeme, mark_token, Placed}
+use Rattle.ostep_lex.specs.Lexeme.{Lexeme, mark_token, Located}
 use Rattle.ostep_lex.specs.Lexing.{BeginsWithTokens}
 
 -- an escape, from its backslash on, in a string whose quote is at offset start
-pub data EscapeFault (p : Places) (start : ℕ) : List ℕ → LexFault → Type 0 where
+pub data EscapeFault (p : Offsets) (start : ℕ) : List ℕ → LexFault → Type 0 where
   cut_escape : EscapeFault p start (backslash ∷ []) (UnclosedString start)
   no_digit : {rest : List ℕ} → begins_digit 16 rest ≡ false
       → EscapeFault p start (backslash ∷ unit_letter ∷ rest)
-      (BadEscape (place p (backslash ∷ unit_letter ∷ rest)))
+      (BadEscape (offset p (backslash ∷ unit_letter ∷ rest)))
   too_high : {rest : List ℕ} → begins_digit 8 rest ≡ true → 0x7f < (octal_number rest).value
-      → EscapeFault p start (backslash ∷ rest) (OctalRange (place p (backslash ∷ rest)))
+      → EscapeFault p start (backslash ∷ rest) (OctalRange (offset p (backslash ∷ rest)))
 
 -- after a quote at offset start: pieces, and then no end or a faulty escape
-pub data QuotedFault (p : Places) (start mark : ℕ) : List ℕ → LexFault → Type 0 where
+pub data QuotedFault (p : Offsets) (start mark : ℕ) : List ℕ → LexFault → Type 0 where
   cut_string : QuotedFault p start mark [] (UnclosedString start)
   escape : {text : List ℕ} {fault : LexFault} → EscapeFault p start text fault
       → QuotedFault p start mark text fault
@@ -42,12 +43,12 @@ abbrev pub is_of_data : ℕ → Bool
 is_of_data c = is_white c || is_hexadecimal c || (c == greater_than)
 
 -- after `<`: pieces, and then no end, a character not allowed in data, or a single digit
-pub data OctetsFault (p : Places) : List ℕ → LexFault → Type 0 where
-  cut_data : OctetsFault p [] (BadData (place p []))
+pub data OctetsFault (p : Offsets) : List ℕ → LexFault → Type 0 where
+  cut_data : OctetsFault p [] (BadData (offset p []))
   other : {c : ℕ} {rest : List ℕ} → is_of_data c ≡ false
-      → OctetsFault p (c ∷ rest) (BadData (place p (c ∷ rest)))
+      → OctetsFault p (c ∷ rest) (BadData (offset p (c ∷ rest)))
   odd : {c : ℕ} {rest : List ℕ} → is_hexadecimal c ≡ true → begins_digit 16 rest ≡ false
-      → OctetsFault p (c ∷ rest) (OddData (place p (c ∷ rest)))
+      → OctetsFault p (c ∷ rest) (OddData (offset p (c ∷ rest)))
   piece : {text octets rest : List ℕ} {fault : LexFault} → OctetsPiece text octets rest
       → OctetsFault p rest fault
       → OctetsFault p text fault
@@ -57,19 +58,19 @@ abbrev pub begins_other : ℕ → Bool
 begins_other c = is_white c || is_run c || is_quote c || (c == less_than)
 
 -- at a position where a token or a comment should begin
-pub data FaultAt (p : Places) : List ℕ → LexFault → Type 0 where
+pub data FaultAt (p : Offsets) : List ℕ → LexFault → Type 0 where
   unexpected : {c : ℕ} {rest : List ℕ} → mark_token c ≡ None → begins_other c ≡ false
-      → FaultAt p (c ∷ rest) (UnexpectedCharacter (place p (c ∷ rest)))
+      → FaultAt p (c ∷ rest) (UnexpectedCharacter (offset p (c ∷ rest)))
   comment : {rest : List ℕ} → NeverCloses rest
-      → FaultAt p (slash ∷ star ∷ rest) (UnclosedComment (place p (slash ∷ star ∷ rest)))
+      → FaultAt p (slash ∷ star ∷ rest) (UnclosedComment (offset p (slash ∷ star ∷ rest)))
   quoted : {c : ℕ} {rest : List ℕ} {fault : LexFault} → is_quote c ≡ true
-      → QuotedFault p (place p (c ∷ rest)) c rest fault
+      → QuotedFault p (offset p (c ∷ rest)) c rest fault
       → FaultAt p (c ∷ rest) fault
   data_token : {rest : List ℕ} {fault : LexFault} → OctetsFault p rest fault
       → FaultAt p (less_than ∷ rest) fault
 
 -- after a gap
-pub data FaultAfterGap (p : Places) : List ℕ → LexFault → Type 0 where
+pub data FaultAfterGap (p : Offsets) : List ℕ → LexFault → Type 0 where
   gap : {text from : List ℕ} {fault : LexFault} → Gap text from → FaultAt p from fault
       → FaultAfterGap p text fault
 
@@ -91,10 +92,10 @@ begins_xml text = starts_with nat_eq text (codes "<?xml")
 
 -- the bytes are those of a text in which the fault follows tokens and a gap
 pub record HasFault (octets : List ℕ) (fault : LexFault) : Type 0 where
-  pub tokens : List Placed
+  pub tokens : List Located
   pub rest : List ℕ
   pub before : BeginsWithTokens octets tokens rest
-  pub stands : FaultAfterGap (places_of octets) rest fault
+  pub stands : FaultAfterGap (offsets_of octets) rest fault
 
 -- the bytes are those of a text that begins, after whitespace, like an XML property list
 pub record HasXml (octets : List ℕ) (at : ℕ) : Type 0 where
@@ -103,18 +104,18 @@ pub record HasXml (octets : List ℕ) (at : ℕ) : Type 0 where
   pub from : List ℕ
   pub white : White text from
   pub begins : begins_xml from ≡ true
-  pub stands : at ≡ place (places_of octets) from
+  pub stands : at ≡ offset (offsets_of octets) from
 
 -- the fault is true of the bytes, at its offset
-abbrev pub Stands : List ℕ → LexFault → Type 0
-Stands octets (BadUtf8 at) = (encoding_of octets ≡ utf8) × StopsAt octets at
-Stands octets (BadUtf16 at) = ¬ (encoding_of octets ≡ utf8) × StopsAt octets at
-Stands octets (XmlForm at) = HasXml octets at
-Stands octets OutOfMemory = Unit {0}
-Stands octets (UnexpectedCharacter at) = HasFault octets (UnexpectedCharacter at)
-Stands octets (UnclosedString at) = HasFault octets (UnclosedString at)
-Stands octets (UnclosedComment at) = HasFault octets (UnclosedComment at)
-Stands octets (BadEscape at) = HasFault octets (BadEscape at)
-Stands octets (OctalRange at) = HasFault octets (OctalRange at)
-Stands octets (OddData at) = HasFault octets (OddData at)
-Stands octets (BadData at) = HasFault octets (BadData at)
+abbrev pub StandsInTokens : List ℕ → LexFault → Type 0
+StandsInTokens octets (BadUtf8 at) = (encoding_of octets ≡ utf8) × StopsAt octets at
+StandsInTokens octets (BadUtf16 at) = ¬ (encoding_of octets ≡ utf8) × StopsAt octets at
+StandsInTokens octets (XmlForm at) = HasXml octets at
+StandsInTokens octets OutOfMemory = Unit {0}
+StandsInTokens octets (UnexpectedCharacter at) = HasFault octets (UnexpectedCharacter at)
+StandsInTokens octets (UnclosedString at) = HasFault octets (UnclosedString at)
+StandsInTokens octets (UnclosedComment at) = HasFault octets (UnclosedComment at)
+StandsInTokens octets (BadEscape at) = HasFault octets (BadEscape at)
+StandsInTokens octets (OctalRange at) = HasFault octets (OctalRange at)
+StandsInTokens octets (OddData at) = HasFault octets (OddData at)
+StandsInTokens octets (BadData at) = HasFault octets (BadData at)

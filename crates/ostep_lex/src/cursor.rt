@@ -19,7 +19,7 @@ pub struct Cursor<'a> {
 }
 
 impl<'a> Cursor<'a> {
-    ghost use Rattle.ostep_lex.specs.Cursor.{ahead, place_at, SameInput, begins_with};
+    ghost use Rattle.ostep_lex.specs.Cursor.{ahead, offset_at, SameInput, begins_with};
     ghost use Rattle.ostep_lex.specs.Cursor.{PassesStretch, SkipsStretch, StretchAppends};
     ghost use Rattle.ostep_lex.specs.Cursor.{PassesPairs};
     ghost use Rattle.ostep_lex.specs.Cursor.{Holds, IsBadUtf8, IsBadUtf16};
@@ -27,9 +27,9 @@ impl<'a> Cursor<'a> {
     ghost use Rattle.ostep_lex.specs.Source.{encoding_by};
 
     /// Returns the offset in the input, byte order mark included.
-    #[tactic(auto, unfolding(crate::specs::Cursor::ahead, crate::specs::Cursor::places_in))]
-    pub fn place(self) -> usize
-        ensures { result ≡ place_at self.entry }
+    #[tactic(auto, unfolding(crate::specs::Cursor::ahead, crate::specs::Cursor::offsets_in))]
+    pub fn offset(self) -> usize
+        ensures { result ≡ offset_at self.entry }
     {
         self.end - self.source.len()
     }
@@ -41,7 +41,7 @@ impl<'a> Cursor<'a> {
 
     /// Returns the first character at the cursor, and the cursor after it.
     #[inline(always)]
-    #[tactic(auto, unfolding(crate::specs::Cursor::ahead, crate::specs::Cursor::places_in))]
+    #[tactic(auto, unfolding(crate::specs::Cursor::ahead, crate::specs::Cursor::offsets_in))]
     pub(crate) fn first(self) -> Option<(char, Cursor<'a>)>
         ensures { MatchOption result (ahead self.entry ≡ []) (λ found.
             (ahead self.entry ≡ found.0 ∷ ahead found.1) × SameInput self.entry found.1) }
@@ -58,7 +58,7 @@ impl<'a> Cursor<'a> {
 
     /// Returns the cursor after the longest stretch of the class.
     #[inline(always)]
-    #[tactic(auto, unfolding(crate::specs::Cursor::ahead, crate::specs::Cursor::places_in))]
+    #[tactic(auto, unfolding(crate::specs::Cursor::ahead, crate::specs::Cursor::offsets_in))]
     pub(crate) fn after_stretch(self, class: Class) -> Cursor<'a>
         ensures { SkipsStretch class self.entry result }
     {
@@ -71,7 +71,7 @@ impl<'a> Cursor<'a> {
     /// Returns the bytes of the longest stretch of the class, one for each character, and the
     /// cursor after it. Returns `None` for UTF-16.
     #[inline(always)]
-    #[tactic(auto, unfolding(crate::specs::Cursor::ahead, crate::specs::Cursor::places_in))]
+    #[tactic(auto, unfolding(crate::specs::Cursor::ahead, crate::specs::Cursor::offsets_in))]
     pub(crate) fn plain_stretch(self, class: Class) -> Option<(&'a [u8], Cursor<'a>)>
         ensures { IfSome result (λ found. PassesStretch class self.entry found.0.now found.1) }
     {
@@ -87,7 +87,7 @@ impl<'a> Cursor<'a> {
 
     /// Appends the characters of the longest stretch of the class and returns the cursor after it.
     #[inline(always)]
-    #[tactic(auto, unfolding(crate::specs::Cursor::ahead, crate::specs::Cursor::places_in))]
+    #[tactic(auto, unfolding(crate::specs::Cursor::ahead, crate::specs::Cursor::offsets_in))]
     pub(crate) fn push_stretch(
         self,
         class: Class,
@@ -104,7 +104,7 @@ impl<'a> Cursor<'a> {
 
     /// Appends the bytes of the pairs of hexadecimal digits at the cursor and returns the cursor
     /// after them. Appends nothing for UTF-16.
-    #[tactic(auto, unfolding(crate::specs::Cursor::ahead, crate::specs::Cursor::places_in))]
+    #[tactic(auto, unfolding(crate::specs::Cursor::ahead, crate::specs::Cursor::offsets_in))]
     pub(crate) fn push_pairs(self, found: &mut Vec<u8>) -> Result<Cursor<'a>, AllocError>
         ensures { IfOk result (PassesPairs found.old.items found.new.items self.entry) }
     {
@@ -127,7 +127,7 @@ impl<'a> Cursor<'a> {
     }
 
     /// Returns the cursor at the start of UTF-8 bytes at the end of an input of `end` bytes.
-    #[tactic(auto, unfolding(crate::specs::Cursor::ahead, crate::specs::Cursor::places_in))]
+    #[tactic(auto, unfolding(crate::specs::Cursor::ahead, crate::specs::Cursor::offsets_in))]
     pub(crate) fn of_utf8(octets: &'a [u8], end: usize) -> Result<Cursor<'a>, LexFault>
         requires { length octets.now ≤ end }
         ensures ok { IfOk result (Holds utf8 octets.now end) }
@@ -145,7 +145,7 @@ impl<'a> Cursor<'a> {
     }
 
     /// Returns the cursor at the start of UTF-16 bytes at the end of an input of `end` bytes.
-    #[tactic(auto, unfolding(crate::specs::Cursor::ahead, crate::specs::Cursor::places_in))]
+    #[tactic(auto, unfolding(crate::specs::Cursor::ahead, crate::specs::Cursor::offsets_in))]
     pub(crate) fn of_utf16(
         order: ByteOrder,
         octets: &'a [u8],

@@ -4,7 +4,7 @@ ghost use Rattle.ostep_lex.specs.Character.{slash as slash_code, star};
 ghost use Rattle.ostep_lex.specs.Gap.{LineComment, BlockComment, NeverCloses};
 ghost use Rattle.ostep_lex.specs.Gap.{closes_comment, begins_gap};
 ghost use Rattle.ostep_lex.specs.Stands.{FaultAt, FaultAfterGap};
-ghost use Rattle.ostep_lex.specs.Cursor.{ahead, places_in, SameInput, PassesPiece, PassesGap};
+ghost use Rattle.ostep_lex.specs.Cursor.{ahead, offsets_in, SameInput, PassesPiece, PassesGap};
 
 use crate::character::{is_line_end, is_white};
 use crate::cursor::Cursor;
@@ -57,7 +57,7 @@ fn comment<'a>(cursor: Cursor<'a>, slash: Cursor<'a>) -> Result<Option<Cursor<'a
     requires input { SameInput cursor slash }
     ensures ok { IfOk result (λ found.
         MatchOption found (begins_gap (ahead cursor.entry) ≡ false) (PassesPiece cursor.entry)) }
-    ensures err { IfErr result (FaultAt (places_in cursor.entry) (ahead cursor.entry)) }
+    ensures err { IfErr result (FaultAt (offsets_in cursor.entry) (ahead cursor.entry)) }
 {
     if let Some(text) = slash.after('/') {
         return Ok(Some(line_comment(text)));
@@ -68,7 +68,7 @@ fn comment<'a>(cursor: Cursor<'a>, slash: Cursor<'a>) -> Result<Option<Cursor<'a
     match block_comment(text) {
         Some(end) => Ok(Some(end)),
         None => Err(LexFault::UnclosedComment {
-            octet: cursor.place(),
+            octet: cursor.offset(),
         }),
     }
 }
@@ -78,7 +78,7 @@ fn comment<'a>(cursor: Cursor<'a>, slash: Cursor<'a>) -> Result<Option<Cursor<'a
 fn gap_piece(cursor: Cursor<'_>) -> Result<Option<Cursor<'_>>, LexFault>
     ensures ok { IfOk result (λ found.
         MatchOption found (begins_gap (ahead cursor.entry) ≡ false) (PassesPiece cursor.entry)) }
-    ensures err { IfErr result (FaultAt (places_in cursor.entry) (ahead cursor.entry)) }
+    ensures err { IfErr result (FaultAt (offsets_in cursor.entry) (ahead cursor.entry)) }
 {
     let Some((c, after)) = cursor.first() else {
         return Ok(None);
@@ -107,7 +107,7 @@ fn is_over(cursor: Cursor<'_>) -> bool
 #[inline(always)]
 pub fn gap(cursor: Cursor<'_>) -> Result<Cursor<'_>, LexFault>
     ensures ok { IfOk result (PassesGap cursor.entry) }
-    ensures err { IfErr result (FaultAfterGap (places_in cursor.entry) (ahead cursor.entry)) }
+    ensures err { IfErr result (FaultAfterGap (offsets_in cursor.entry) (ahead cursor.entry)) }
 {
     let rest = cursor.after_stretch(Class::White);
     if is_over(rest) {
@@ -121,7 +121,7 @@ pub fn gap(cursor: Cursor<'_>) -> Result<Cursor<'_>, LexFault>
 #[inline(never)]
 fn whole_gap(cursor: Cursor<'_>) -> Result<Cursor<'_>, LexFault>
     ensures ok { IfOk result (PassesGap cursor.entry) }
-    ensures err { IfErr result (FaultAfterGap (places_in cursor.entry) (ahead cursor.entry)) }
+    ensures err { IfErr result (FaultAfterGap (offsets_in cursor.entry) (ahead cursor.entry)) }
 {
     let mut rest = cursor;
     while let Some(after) = gap_piece(rest)? {

@@ -3,11 +3,11 @@ ghost use Rattle.std.specs.Prelude.{◌≡◌, ℕ, ◌<◌, List, [], ◌∷◌
 ghost use Rattle.std.specs.Prelude.{option_map, map, Some, MatchOption, IfSome, IfNone};
 ghost use Rattle.std.specs.Prelude.{IfOk, IfErr};
 ghost use Rattle.ostep_lex.specs.Gap.{begins_gap};
-ghost use Rattle.ostep_lex.specs.Lexeme.{lexeme_of, mark_token, Placed, placed};
+ghost use Rattle.ostep_lex.specs.Lexeme.{lexeme_of, mark_token, Located, located};
 ghost use Rattle.ostep_lex.specs.Lexing.{HasTokens, HasNoTokens};
 ghost use Rattle.ostep_lex.specs.Spans.{HasSpans};
-ghost use Rattle.ostep_lex.specs.Stands.{FaultAt, LacksMark, Stands};
-ghost use Rattle.ostep_lex.specs.Cursor.{ahead, places_in, PassesToken, IsAfter, UnlessMemory};
+ghost use Rattle.ostep_lex.specs.Stands.{FaultAt, LacksMark, StandsInTokens};
+ghost use Rattle.ostep_lex.specs.Cursor.{ahead, offsets_in, PassesToken, IsAfter, UnlessMemory};
 
 use crate::character::{is_quote, is_run, is_white};
 use crate::cursor::Cursor;
@@ -46,7 +46,7 @@ fn token_here(
     ensures ok { IfOk result (λ found. MatchOption found (ahead cursor.entry ≡ [])
         (λ token. PassesToken (lexeme_of token.0) cursor.entry token.1)) }
     ensures err { IfErr result (UnlessMemory
-        (FaultAt (places_in cursor.entry) (ahead cursor.entry))) }
+        (FaultAt (offsets_in cursor.entry) (ahead cursor.entry))) }
 {
     let Some((c, after)) = cursor.first() else {
         return Ok(None);
@@ -59,7 +59,7 @@ fn token_here(
         return Ok(Some((TokenKind::Text(Utf16::from_units(units)), end)));
     }
     if is_quote(c) {
-        let (units, end) = quoted(alloc, c, cursor.place(), after)?;
+        let (units, end) = quoted(alloc, c, cursor.offset(), after)?;
         return Ok(Some((TokenKind::Text(Utf16::from_units(units)), end)));
     }
     if c == '<' {
@@ -67,7 +67,7 @@ fn token_here(
         return Ok(Some((TokenKind::Octets(octets), end)));
     }
     Err(LexFault::UnexpectedCharacter {
-        octet: cursor.place(),
+        octet: cursor.offset(),
     })
 }
 
@@ -79,16 +79,16 @@ pub fn next_token(
     cursor: Cursor<'_>,
 ) -> Result<Option<(Token, Cursor<'_>)>, LexFault>
     // If the cursor is after tokens of an input, these are all of its tokens, or there is one more.
-    ensures ok { (octets : List ℕ) (tokens : List Placed) → IsAfter octets tokens cursor.entry
+    ensures ok { (octets : List ℕ) (tokens : List Located) → IsAfter octets tokens cursor.entry
         → IfOk result (λ found. MatchOption found (HasTokens octets tokens)
-        (λ token. IsAfter octets (tokens ++ placed token.0 ∷ []) token.1)) }
+        (λ token. IsAfter octets (tokens ++ located token.0 ∷ []) token.1)) }
     // Each token has at least one character.
     ensures shorter { IfOk result (λ found.
         IfSome found (λ token. length (ahead token.1) < length (ahead cursor.entry))) }
     // The fault is true of that input, which has no tokens.
-    ensures stands { (octets : List ℕ) (tokens : List Placed)
-        → IsAfter octets tokens cursor.entry → IfErr result (Stands octets) }
-    ensures refused { (octets : List ℕ) (tokens : List Placed)
+    ensures stands { (octets : List ℕ) (tokens : List Located)
+        → IsAfter octets tokens cursor.entry → IfErr result (StandsInTokens octets) }
+    ensures refused { (octets : List ℕ) (tokens : List Located)
         → IsAfter octets tokens cursor.entry
         → IfErr result (UnlessMemory (λ fault. HasNoTokens octets)) }
 {
@@ -97,8 +97,8 @@ pub fn next_token(
         Some((kind, end)) => Ok(Some((
             Token {
                 kind,
-                start: start.place(),
-                end: end.place(),
+                start: start.offset(),
+                end: end.offset(),
             },
             end,
         ))),
@@ -111,9 +111,9 @@ pub fn next_token(
 #[inline(always)]
 pub fn next_mark(cursor: Cursor<'_>, mark: char) -> Option<(Token, Cursor<'_>)>
     // If the cursor is after tokens of an input, this is one more.
-    ensures some { (octets : List ℕ) (tokens : List Placed)
+    ensures some { (octets : List ℕ) (tokens : List Located)
         → IsAfter octets tokens cursor.entry
-        → IfSome result (λ token. IsAfter octets (tokens ++ placed token.0 ∷ []) token.1) }
+        → IfSome result (λ token. IsAfter octets (tokens ++ located token.0 ∷ []) token.1) }
     // It is that mark, and has at least one character.
     ensures kind { IfSome result (λ token.
         mark_token mark ≡ Some (lexeme_of token.0.kind)) }
@@ -128,8 +128,8 @@ pub fn next_mark(cursor: Cursor<'_>, mark: char) -> Option<(Token, Cursor<'_>)>
             let kind = mark_token(mark)?;
             let token = Token {
                 kind,
-                start: rest.place(),
-                end: after.place(),
+                start: rest.offset(),
+                end: after.offset(),
             };
             return Some((token, after));
         }
@@ -150,12 +150,12 @@ pub fn next_mark(cursor: Cursor<'_>, mark: char) -> Option<(Token, Cursor<'_>)>
 /// XML property list, and otherwise the first fault from the left. `OutOfMemory` at any time.
 pub fn tokens(alloc: Global, octets: &[u8]) -> Result<Vec<Token>, LexFault>
     // The bytes are those of a text with these tokens, at these offsets.
-    ensures ok { IfOk result (λ tokens. HasTokens octets.now (map placed tokens.items)) }
+    ensures ok { IfOk result (λ tokens. HasTokens octets.now (map located tokens.items)) }
     // They follow one another, with gaps before, between and after them; each span encodes its
     // token.
-    ensures spans { IfOk result (λ tokens. HasSpans octets.now (map placed tokens.items)) }
+    ensures spans { IfOk result (λ tokens. HasSpans octets.now (map located tokens.items)) }
     // The fault is true of the bytes.
-    ensures stands { IfErr result (Stands octets.now) }
+    ensures stands { IfErr result (StandsInTokens octets.now) }
     ensures refused { IfErr result (UnlessMemory (λ fault. HasNoTokens octets.now)) }
 {
     let mut found = Vec::new(alloc);

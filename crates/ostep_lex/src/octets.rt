@@ -3,7 +3,7 @@ ghost use Rattle.std.specs.Prelude.{◌≡◌, ◌≢◌, ◌∷◌, false, Matc
 ghost use Rattle.ostep_lex.specs.Character.{greater_than};
 ghost use Rattle.ostep_lex.specs.Digits.{begins_digit};
 ghost use Rattle.ostep_lex.specs.Stands.{OctetsFault};
-ghost use Rattle.ostep_lex.specs.Cursor.{ahead, places_in, SameInput, UnlessMemory};
+ghost use Rattle.ostep_lex.specs.Cursor.{ahead, offsets_in, SameInput, UnlessMemory};
 ghost use Rattle.ostep_lex.specs.Cursor.{PassesDigit, OctetsAppends, PassesOctets};
 
 use crate::character::is_white;
@@ -33,19 +33,19 @@ fn push_octet<'a>(
     requires input { SameInput cursor after }
     ensures ok { IfOk result (OctetsAppends octets.old.items octets.new.items cursor.entry) }
     ensures err { IfErr result (UnlessMemory
-        (OctetsFault (places_in cursor.entry) (ahead cursor.entry))) }
+        (OctetsFault (offsets_in cursor.entry) (ahead cursor.entry))) }
 {
     if is_white(c) {
         return Ok(after);
     }
     let Some((high, second)) = digit(cursor) else {
         return Err(LexFault::BadData {
-            octet: cursor.place(),
+            octet: cursor.offset(),
         });
     };
     let Some((low, end)) = digit(second) else {
         return Err(LexFault::OddData {
-            octet: cursor.place(),
+            octet: cursor.offset(),
         });
     };
     octets.push((high * 16 + low) as u8)?;
@@ -56,7 +56,7 @@ fn push_octet<'a>(
 pub fn octets(alloc: Global, cursor: Cursor<'_>) -> Result<(Vec<u8>, Cursor<'_>), LexFault>
     ensures ok { IfOk result (λ found. PassesOctets cursor.entry found.1 found.0.items) }
     ensures err { IfErr result (UnlessMemory
-        (OctetsFault (places_in cursor.entry) (ahead cursor.entry))) }
+        (OctetsFault (offsets_in cursor.entry) (ahead cursor.entry))) }
 {
     let mut octets = Vec::new(alloc);
     let mut rest = cursor.push_pairs(&mut octets)?;
@@ -68,6 +68,6 @@ pub fn octets(alloc: Global, cursor: Cursor<'_>) -> Result<(Vec<u8>, Cursor<'_>)
         rest = end.push_pairs(&mut octets)?;
     }
     Err(LexFault::BadData {
-        octet: rest.place(),
+        octet: rest.offset(),
     })
 }

@@ -2,7 +2,7 @@
 ghost use Rattle.std.specs.Prelude.{◌≡◌, [], nat_eq, IfOk, IfErr};
 ghost use Rattle.std.specs.List.{starts_with};
 ghost use Rattle.ostep_lex.specs.Lexing.{HasNoTokens};
-ghost use Rattle.ostep_lex.specs.Stands.{Stands, begins_xml, White};
+ghost use Rattle.ostep_lex.specs.Stands.{StandsInTokens, begins_xml, White};
 ghost use Rattle.ostep_lex.specs.Cursor.{ahead, SameInput, Opens, IsAfter};
 
 use crate::character::is_white;
@@ -19,7 +19,7 @@ const UTF8_MARK: [u8; 3] = [0xef, 0xbb, 0xbf];
 /// Returns the cursor at the start of the text. Its byte order mark determines the encoding.
 fn text_of(octets: &[u8]) -> Result<Cursor<'_>, LexFault>
     ensures ok { IfOk result (Opens octets.now) }
-    ensures err { IfErr result (Stands octets.now) }
+    ensures err { IfErr result (StandsInTokens octets.now) }
     ensures memory { IfErr result (λ fault. ¬ (fault ≡ LexFault.OutOfMemory)) }
 {
     let end = octets.len();
@@ -81,7 +81,7 @@ fn begins_xml(cursor: Cursor<'_>) -> bool
 /// after whitespace, with `<?xml`, `<!DOCTYPE` or `<plist`.
 pub fn open(octets: &[u8]) -> Result<Cursor<'_>, LexFault>
     ensures ok { IfOk result (IsAfter octets.now []) }
-    ensures stands { IfErr result (Stands octets.now) }
+    ensures stands { IfErr result (StandsInTokens octets.now) }
     // There are no tokens. This is true of every refusal, since none is out of memory.
     ensures refused { IfErr result (λ fault. HasNoTokens octets.now) }
 {
@@ -89,7 +89,7 @@ pub fn open(octets: &[u8]) -> Result<Cursor<'_>, LexFault>
     let text = after_white(cursor);
     if begins_xml(text) {
         return Err(LexFault::XmlForm {
-            octet: text.place(),
+            octet: text.offset(),
         });
     }
     Ok(cursor)

@@ -2,7 +2,7 @@
 ghost use Rattle.std.specs.Prelude.{◌<◌, ◌∷◌, ◌++◌, [], ℕ, List, IfSome, length};
 ghost use Rattle.plist_value.specs.Plist.{AreUnits};
 ghost use Rattle.plist_value.specs.Texts.{units_of};
-ghost use Rattle.ostep_lex.specs.Lexeme.{Placed, placed_plain, text as string};
+ghost use Rattle.ostep_lex.specs.Lexeme.{Located, placed_plain, text as string};
 ghost use Rattle.ostep_lex.specs.Cursor.{ahead, IsAfter};
 ghost use Rattle.ostep_lex.specs.Cursor.{PassesQuoted, PassesRun, PassesToken};
 
@@ -57,7 +57,7 @@ fn plain_here(cursor: Cursor<'_>) -> Option<(&[u8], Cursor<'_>)>
 #[inline(always)]
 pub fn next_plain(cursor: Cursor<'_>) -> Option<(PlainToken<'_>, Cursor<'_>)>
     // If the cursor is after tokens of an input, this is one more.
-    ensures some { (octets : List ℕ) (tokens : List Placed)
+    ensures some { (octets : List ℕ) (tokens : List Located)
         → IsAfter octets tokens cursor.entry
         → IfSome result (λ token.
         IsAfter octets (tokens ++ placed_plain token.0 ∷ []) token.1) }
@@ -76,8 +76,8 @@ pub fn next_plain(cursor: Cursor<'_>) -> Option<(PlainToken<'_>, Cursor<'_>)>
     let text = TextRef::of_ascii(octets)?;
     let token = PlainToken {
         text,
-        start: start.place(),
-        end: end.place(),
+        start: start.offset(),
+        end: end.offset(),
     };
     Some((token, end))
 }

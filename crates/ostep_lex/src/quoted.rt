@@ -7,7 +7,7 @@ ghost use Rattle.ostep_lex.specs.Quoted.{escaped, unit_letter};
 ghost use Rattle.ostep_lex.specs.Character.{backslash as backslash_code, is_quote};
 ghost use Rattle.ostep_lex.specs.Stands.{EscapeFault, QuotedFault};
 ghost use Rattle.ostep_lex.specs.declared.stretch.Class.TheVariants.{Raw};
-ghost use Rattle.ostep_lex.specs.Cursor.{ahead, places_in, SameInput, UnlessMemory};
+ghost use Rattle.ostep_lex.specs.Cursor.{ahead, offsets_in, SameInput, UnlessMemory};
 ghost use Rattle.ostep_lex.specs.Cursor.{EscapeAppends, PieceAppends, StretchAppends};
 ghost use Rattle.ostep_lex.specs.Cursor.{PassesQuoted, PassesRun};
 
@@ -82,12 +82,12 @@ fn push_octal<'a>(
     requires input { SameInput backslash digits }
     ensures ok { IfOk result (EscapeAppends units.old.items units.new.items digits.entry) }
     ensures err { (start : ℕ) → IfErr result (UnlessMemory
-        (EscapeFault (places_in backslash.entry) start (ahead backslash.entry))) }
+        (EscapeFault (offsets_in backslash.entry) start (ahead backslash.entry))) }
 {
     let (value, end) = number(digits, 8, 3);
     if value > 0o177 {
         return Err(LexFault::OctalRange {
-            octet: backslash.place(),
+            octet: backslash.offset(),
         });
     }
     units.push(value as u16)?;
@@ -107,11 +107,11 @@ fn push_unit<'a>(
     requires input { (SameInput backslash letter) × SameInput letter digits }
     ensures ok { IfOk result (EscapeAppends units.old.items units.new.items letter.entry) }
     ensures err { (start : ℕ) → IfErr result (UnlessMemory
-        (EscapeFault (places_in backslash.entry) start (ahead backslash.entry))) }
+        (EscapeFault (offsets_in backslash.entry) start (ahead backslash.entry))) }
 {
     if !begins_digit(digits, 16) {
         return Err(LexFault::BadEscape {
-            octet: backslash.place(),
+            octet: backslash.offset(),
         });
     }
     let (value, end) = number(digits, 16, 4);
@@ -131,7 +131,7 @@ fn push_escape<'a>(
     requires input { SameInput backslash cursor }
     ensures ok { IfOk result (EscapeAppends units.old.items units.new.items cursor.entry) }
     ensures err { IfErr result (UnlessMemory
-        (EscapeFault (places_in backslash.entry) start (ahead backslash.entry))) }
+        (EscapeFault (offsets_in backslash.entry) start (ahead backslash.entry))) }
 {
     let Some((c, after)) = cursor.first() else {
         return Err(LexFault::UnclosedString { octet: start });
@@ -160,7 +160,7 @@ fn push_piece<'a>(
     ensures ok { (mark : ℕ) → (c == mark) ≡ false
         → IfOk result (PieceAppends mark units.old.items units.new.items cursor.entry) }
     ensures err { IfErr result (UnlessMemory
-        (EscapeFault (places_in cursor.entry) start (ahead cursor.entry))) }
+        (EscapeFault (offsets_in cursor.entry) start (ahead cursor.entry))) }
 {
     if c == '\\' {
         return push_escape(units, start, cursor, after);
@@ -212,7 +212,7 @@ pub fn quoted(
 ) -> Result<(Vec<u16>, Cursor<'_>), LexFault>
     ensures ok { IfOk result (λ found. PassesQuoted mark cursor.entry found.1 found.0.items) }
     ensures err { IfErr result (UnlessMemory
-        (QuotedFault (places_in cursor.entry) start mark (ahead cursor.entry))) }
+        (QuotedFault (offsets_in cursor.entry) start mark (ahead cursor.entry))) }
 {
     let mut units = Vec::new(alloc);
     let mut rest = push_raw(&mut units, mark, cursor)?;

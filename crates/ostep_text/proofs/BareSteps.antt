@@ -8,7 +8,7 @@ use Rattle.plist_value.specs.Budget.{Spends}
 use Rattle.plist_value.specs.Plist.{Plist, AreUnits, scalar, text, table, Pairs, no_pairs, pair}
 use Rattle.plist_value.specs.Limits.{Fits}
 use Rattle.plist_value.proofs.Pairs.{put_pair}
-use Rattle.ostep_lex.specs.Lexeme.{Lexeme, Placed, semicolon, equals, text as string}
+use Rattle.ostep_lex.specs.Lexeme.{Lexeme, Located, semicolon, equals, text as string}
 use Rattle.ostep_lex.specs.Lexing.{HasTokens}
 use Rattle.ostep_text.specs.Phrase.{RowPhrase, with_value, key_alone, RowsPhrase, rows_end, a_row, a_string, TopPhrase, a_value, bare_table}
 use Rattle.ostep_text.specs.Sorting
@@ -35,7 +35,7 @@ use Rattle.ostep_text.proofs.TakeSteps.{left-after, no-pairs-taken, pair-taken}
 
 -- the rows so far, at least one
 pub record BareRead (octets : List ℕ) (left : Budget) (pairs : Pairs) (reader : Reader) : Type 0 where
-  pub tokens : List Placed
+  pub tokens : List Located
   pub has : HasRead octets tokens reader.tokens
   pub whole : Front
   pub before : AreBefore tokens whole
@@ -53,7 +53,7 @@ rows-none : {tokens rest : List Lexeme} {rows : Pairs} → RowsPhrase tokens row
 rows-none rows_end n e = n e
 rows-none (a_row p r d) n e = row-none p e
 
-row-some : {octets : List ℕ} {tokens : List Placed} {key : List ℕ} {v : Plist} {source : Tokens} (r : ReadsRow octets tokens key v source) → ¬ (r.inside [] ≡ [])
+row-some : {octets : List ℕ} {tokens : List Located} {key : List ℕ} {v : Plist} {source : Tokens} (r : ReadsRow octets tokens key v source) → ¬ (r.inside [] ≡ [])
 row-some r e = row-none (r.spells []) e
 
 pub bare-first : {octets : List ℕ} {left : Budget} {key : List ℕ} {v : Plist} (reader : Reader) → TakesRow left 511 key v reader.left → ReadsRow octets [] key v reader.tokens
@@ -106,7 +106,7 @@ pub bare-ends : {octets : List ℕ} {left : Budget} {pairs : Pairs} {reader : Re
 bare-ends b l e rest = b.due.leads (l ∷ rest) ∙ (ap (λ s. runs s rest) e ∙ stays-dead rest)
 
 -- the first string and the token after it
-pub before-two : (at after : Placed) (l m : Lexeme) → at.lexeme ≡ l → after.lexeme ≡ m → AreBefore (at ∷ after ∷ []) (λ rest. l ∷ m ∷ rest)
+pub before-two : (at after : Located) (l m : Lexeme) → at.lexeme ≡ l → after.lexeme ≡ m → AreBefore (at ∷ after ∷ []) (λ rest. l ∷ m ∷ rest)
 before-two at after l m e f rest = ap (λ x. x ∷ after.lexeme ∷ rest) e ∙ ap (λ x. l ∷ x ∷ rest) f
 
 pub first_value-due : (key : List ℕ) → RowValueDue (λ rest. string key ∷ equals ∷ rest) (with_key key (with_rows no_pairs (opened nothing))) Machine.bare
@@ -122,7 +122,7 @@ pub first_key-left : {left mid : Budget} (key : List ℕ) → IsLeft left MAX_DE
     → IsLeft mid 511 (with_key key (with_rows no_pairs (opened nothing)))
 first_key-left key i s = left-after i s (omega arith) (omega arith) (omega arith)
 
-pub first_alone-refuses : {octets : List ℕ} {source : Tokens} (at after : Placed) (octet : ℕ) (key : List ℕ) (levels : ℕ) (left : Budget) → at.lexeme ≡ string key → at.start ≡ octet
+pub first_alone-refuses : {octets : List ℕ} {source : Tokens} (at after : Located) (octet : ℕ) (key : List ℕ) (levels : ℕ) (left : Budget) → at.lexeme ≡ string key → at.start ≡ octet
     → after.lexeme ≡ semicolon → HasRead octets (at ∷ after ∷ []) source → IsLeft left levels (with_key key (with_rows no_pairs (opened nothing)))
     → MayRefuse octets octet levels (2 * length key) left
 first_alone-refuses at after octet key levels left l s e h i =
@@ -159,7 +159,7 @@ first-row {mid = mid} key v reader i s t u r = record {
 }
 
 -- a string alone
-pub lone-text : {octets : List ℕ} (at : Placed) (units : List ℕ) → at.lexeme ≡ string units → HasTokens octets (at ∷ []) → AreUnits units → 2 * length units ≤ MAX_PAYLOAD
+pub lone-text : {octets : List ℕ} (at : Located) (units : List ℕ) → at.lexeme ≡ string units → HasTokens octets (at ∷ []) → AreUnits units → 2 * length units ≤ MAX_PAYLOAD
     → IsText octets (scalar (text units))
 lone-text at units l t u m = record {
   tokens = at ∷ [];

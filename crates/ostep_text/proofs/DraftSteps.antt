@@ -7,7 +7,7 @@ use Rattle.std.specs.List.Sorted.{IsPermutation}
 use Rattle.std.proofs.lemmas.List.Sorted.{IsPermutation-refl, IsPermutation-sym, IsPermutation-cons, IsPermutation-middle, IsPermutation-push_more, IsPermutation-trans}
 use Rattle.plist_value.specs.Plist.{Plist, Items, no_items, item, Pairs, no_pairs}
 use Rattle.plist_value.proofs.Items.{push}
-use Rattle.plist_object.specs.Objects.{Held}
+use Rattle.plist_object.specs.Objects.{Content}
 use Rattle.plist_draft.specs.View.{objects}
 use Rattle.plist_draft.specs.declared.draft.Draft.{Draft}
 use Rattle.plist_draft.specs.Encoded.{Keeps, SpellsIn, SpellItemsIn, SpellPairsIn}
@@ -21,17 +21,17 @@ use Rattle.ostep_text.specs.declared.keys.KeySet.{KeySet}
 use Rattle.ostep_text.specs.declared.entries.Rows.{Rows}
 use Rattle.ostep_text.proofs.SortingSteps.{among_has}
 
-pub keeps-all : (helds : List Held) → Keeps helds helds
+pub keeps-all : (helds : List Content) → Keeps helds helds
 keeps-all helds = record { value = λ i v s. s; items = λ refs vs s. s; pairs = λ rows ps s. s }
 
-pub keeps-then : {a b c : List Held} → Keeps a b → Keeps b c → Keeps a c
+pub keeps-then : {a b c : List Content} → Keeps a b → Keeps b c → Keeps a c
 keeps-then k l = record {
   value = λ i v s. l.value i v (k.value i v s);
   items = λ refs vs s. l.items refs vs (k.items refs vs s);
   pairs = λ rows ps s. l.pairs rows ps (k.pairs rows ps s);
 }
 
-pub spell-push : (helds : List Held) (refs : List ℕ) (i : ℕ) (vs : Items) (v : Plist) → SpellItemsIn helds refs vs → SpellsIn helds i v → SpellItemsIn helds (refs ++ i ∷ []) (push vs v)
+pub spell-push : (helds : List Content) (refs : List ℕ) (i : ℕ) (vs : Items) (v : Plist) → SpellItemsIn helds refs vs → SpellsIn helds i v → SpellItemsIn helds (refs ++ i ∷ []) (push vs v)
 spell-push helds [] i no_items v s t = (t, refl)
 spell-push helds (r ∷ refs) i no_items v s t = absurd (cc s)
 spell-push helds [] i (item w vs) v s t = absurd s
@@ -48,13 +48,13 @@ zip-more keys all_keys values all_values row e g even =
     ap (λ l. zip l all_values) e ∙ ap (λ l. zip (keys ++ row.0 ∷ []) l) g ∙ zip-push keys values row.0 row.1 even
 
 -- the references of rows with one more at its place
-record Placed (helds : List Held) (row : ℕ × ℕ) (moved : List (ℕ × ℕ)) (all : Pairs) : Type 0 where
+record Located (helds : List Content) (row : ℕ × ℕ) (moved : List (ℕ × ℕ)) (all : Pairs) : Type 0 where
   refs : List (ℕ × ℕ)
   same : IsPermutation (row ∷ moved) refs
   spell : SpellPairsIn helds refs all
 
-place : (helds : List Held) (row : ℕ × ℕ) {key : List ℕ} {v : Plist} (moved : List (ℕ × ℕ)) {ps all : Pairs} → SpellsRow helds key row v → SpellPairsIn helds moved ps
-    → StandsAmong key v ps all → Placed helds row moved all
+place : (helds : List Content) (row : ℕ × ℕ) {key : List ℕ} {v : Plist} (moved : List (ℕ × ℕ)) {ps all : Pairs} → SpellsRow helds key row v → SpellPairsIn helds moved ps
+    → StandsAmong key v ps all → Located helds row moved all
 place helds row moved r s first = record { refs = row ∷ moved; same = IsPermutation-refl (row ∷ moved); spell = (r.0, r.1, s) }
 place helds row [] r s (later a) = absurd s
 place helds row (m ∷ moved) r s (later a) =
@@ -71,10 +71,10 @@ none-zip : (keys values : List ℕ) → keys ≡ [] → values ≡ [] → IsPerm
 none-zip [] values e g = IsPermutation-refl []
 none-zip (k ∷ keys) values e g = absurd (cc e)
 
-pub rows-none : (helds : List Held) (rows : Rows) → rows.keys.items ≡ [] → rows.values.items ≡ [] → SpellsRows helds rows no_pairs
+pub rows-none : (helds : List Content) (rows : Rows) → rows.keys.items ≡ [] → rows.values.items ≡ [] → SpellsRows helds rows no_pairs
 rows-none helds rows e g = record { moved = []; same = none-zip rows.keys.items rows.values.items e g; spell = refl }
 
-pub rows-more : (old new : List Held) (rows all : Rows) (row : ℕ × ℕ) {key : List ℕ} {v : Plist} {ps pairs : Pairs} → all.keys.items ≡ rows.keys.items ++ row.0 ∷ []
+pub rows-more : (old new : List Content) (rows all : Rows) (row : ℕ × ℕ) {key : List ℕ} {v : Plist} {ps pairs : Pairs} → all.keys.items ≡ rows.keys.items ++ row.0 ∷ []
     → all.values.items ≡ rows.values.items ++ row.1 ∷ [] → length rows.keys.items ≡ length rows.values.items → Keeps old new → SpellsRows old rows ps → SpellsRow new key row v
     → StandsAmong key v ps pairs → SpellsRows new all pairs
 rows-more old new rows all row {ps = ps} e g even k s r a =
@@ -98,7 +98,7 @@ no-memory octets (Err f) e = subst (λ g. Stands octets g) (sym e) tt
 pub memory-stands : (octets : List ℕ) (f : TextFault) → f ≡ OutOfMemory → Stands octets f
 memory-stands octets f e = subst (λ g. Stands octets g) (sym e) tt
 
-pub keeps-from : {old same : Draft} {new : List Held} → same ≡ old → Keeps (objects same) new → Keeps (objects old) new
+pub keeps-from : {old same : Draft} {new : List Content} → same ≡ old → Keeps (objects same) new → Keeps (objects old) new
 keeps-from {new = new} e k = subst (λ d. Keeps (objects d) new) e k
 
 pub rows-even : (rows all : Rows) (row : ℕ × ℕ) → all.keys.items ≡ rows.keys.items ++ row.0 ∷ [] → all.values.items ≡ rows.values.items ++ row.1 ∷ []

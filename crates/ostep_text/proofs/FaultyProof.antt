@@ -6,7 +6,7 @@ use Rattle.ostep_lex.specs.Lexeme.{Lexeme}
 use Rattle.ostep_lex.specs.Laws.{OneLexing, FaultyHasNone}
 use Rattle.ostep_lex.specs.declared.fault.LexFault.{LexFault}
 use Rattle.ostep_lex.specs.declared.fault.LexFault.TheVariants as tokens
-use Rattle.ostep_lex.specs.Stands.{Stands as StandsInTokens}
+use Rattle.ostep_lex.specs.Stands.{StandsInTokens as StandsInTokens}
 use Rattle.ostep_text.specs.declared.fault.TextFault.TheVariants.{BadUtf8, XmlForm, UnexpectedCharacter, UnclosedString, UnclosedComment, BadEscape, OctalRange, OddData, BadData, BadUtf16, DuplicateKey, TooDeep, TooManyNodes, TooMuchPayload, Expected, Junk, OutOfMemory}
 use Rattle.ostep_text.specs.Phrase.{TopPhrase}
 use Rattle.ostep_text.specs.Begun.{Before}

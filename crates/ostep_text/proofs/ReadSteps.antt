@@ -2,7 +2,7 @@
 use Rattle.std.proofs.Common.{◌≡◌, ℕ, false, List, [], ◌∷◌, ◌++◌, refl, sym, subst, ◌∙◌}
 use Rattle.plist_value.specs.Plist.{Plist, scalar, text, bytes, list, table, Items, no_items, Pairs, no_pairs, ArePairs}
 use Rattle.plist_value.proofs.Pairs.{put_pair}
-use Rattle.ostep_lex.specs.Lexeme.{Lexeme, Placed, brace_open, brace_close, paren_open, paren_close, comma, semicolon, equals, text as string, octets as data_token}
+use Rattle.ostep_lex.specs.Lexeme.{Lexeme, Located, brace_open, brace_close, paren_open, paren_close, comma, semicolon, equals, text as string, octets as data_token}
 use Rattle.ostep_text.specs.Phrase.{Phrase, ItemsPhrase, a_string, some_data, a_list, a_table, items_end, rows_end, with_value, key_alone, a_value, bare_table, TopPhrase}
 use Rattle.ostep_text.specs.Sorting.{has_key, none, AreSorted}
 use Rattle.ostep_text.specs.Text.{lexemes}
@@ -13,10 +13,10 @@ use Rattle.plist_value.proofs.Items.{push}
 use Rattle.ostep_text.proofs.SortingSteps.{reordered-more, put-stands, reordered-has, pairs-ascend}
 use Rattle.ostep_text.proofs.Standing.{before-more, before-are}
 
-reads-none : {octets : List ℕ} {source : Tokens} {tokens : List Placed} → HasRead octets tokens source → ReadsOn octets tokens (λ rest. rest) source
+reads-none : {octets : List ℕ} {source : Tokens} {tokens : List Located} → HasRead octets tokens source → ReadsOn octets tokens (λ rest. rest) source
 reads-none {tokens = tokens} h = record { all = tokens; has = h; follow = λ whole b. b }
 
-reads-token : {octets : List ℕ} {source : Tokens} (tokens : List Placed) (token : Placed) (l : Lexeme) → token.lexeme ≡ l → HasRead octets (tokens ++ token ∷ []) source → ReadsOn octets tokens (λ rest. l ∷ rest) source
+reads-token : {octets : List ℕ} {source : Tokens} (tokens : List Located) (token : Located) (l : Lexeme) → token.lexeme ≡ l → HasRead octets (tokens ++ token ∷ []) source → ReadsOn octets tokens (λ rest. l ∷ rest) source
 reads-token tokens token l e h = record {
   all = tokens ++ token ∷ [];
   has = h;
@@ -24,7 +24,7 @@ reads-token tokens token l e h = record {
 }
 
 -- two parts read one after the other
-reads-then : {octets : List ℕ} {old source : Tokens} {tokens : List Placed} {inside more : Front} (r : ReadsOn octets tokens inside old) → ReadsOn octets r.all more source
+reads-then : {octets : List ℕ} {old source : Tokens} {tokens : List Located} {inside more : Front} (r : ReadsOn octets tokens inside old) → ReadsOn octets r.all more source
     → ReadsOn octets tokens (λ rest. inside (more rest)) source
 reads-then {inside = inside} r s = record {
   all = s.all;
@@ -32,7 +32,7 @@ reads-then {inside = inside} r s = record {
   follow = λ whole b. s.follow (λ rest. whole (inside rest)) (r.follow whole b);
 }
 
-pub string-read : {octets : List ℕ} {source : Tokens} (tokens : List Placed) (first : Placed) (units : List ℕ) → first.lexeme ≡ string units → HasRead octets (tokens ++ first ∷ []) source
+pub string-read : {octets : List ℕ} {source : Tokens} (tokens : List Located) (first : Located) (units : List ℕ) → first.lexeme ≡ string units → HasRead octets (tokens ++ first ∷ []) source
     → ReadsValue octets tokens first.lexeme (scalar (text units)) source
 string-read tokens first units e h = record {
   inside = λ rest. rest;
@@ -40,7 +40,7 @@ string-read tokens first units e h = record {
   reads = reads-token tokens first first.lexeme refl h;
 }
 
-pub data-read : {octets : List ℕ} {source : Tokens} (tokens : List Placed) (first : Placed) (xs : List ℕ) → first.lexeme ≡ data_token xs → HasRead octets (tokens ++ first ∷ []) source
+pub data-read : {octets : List ℕ} {source : Tokens} (tokens : List Located) (first : Located) (xs : List ℕ) → first.lexeme ≡ data_token xs → HasRead octets (tokens ++ first ∷ []) source
     → ReadsValue octets tokens first.lexeme (scalar (bytes xs)) source
 data-read tokens first xs e h = record {
   inside = λ rest. rest;
@@ -49,7 +49,7 @@ data-read tokens first xs e h = record {
 }
 
 -- after a first token
-after-first : {octets : List ℕ} {source : Tokens} {inside : Front} (tokens : List Placed) (first : Placed) → ReadsOn octets (tokens ++ first ∷ []) inside source
+after-first : {octets : List ℕ} {source : Tokens} {inside : Front} (tokens : List Located) (first : Located) → ReadsOn octets (tokens ++ first ∷ []) inside source
     → ReadsOn octets tokens (λ rest. first.lexeme ∷ inside rest) source
 after-first tokens first r = record {
   all = r.all;
@@ -57,7 +57,7 @@ after-first tokens first r = record {
   follow = λ whole b. r.follow (λ rest. whole (first.lexeme ∷ rest)) (before-more tokens first whole b);
 }
 
-pub list-read : {octets : List ℕ} {source : Tokens} {vs : Items} (tokens : List Placed) (first : Placed) → first.lexeme ≡ paren_open
+pub list-read : {octets : List ℕ} {source : Tokens} {vs : Items} (tokens : List Located) (first : Located) → first.lexeme ≡ paren_open
     → ReadsItems octets (tokens ++ first ∷ []) (paren_close ∷ []) vs source → ReadsValue octets tokens first.lexeme (list vs) source
 list-read {vs = vs} tokens first e i = record {
   inside = i.inside;
@@ -65,7 +65,7 @@ list-read {vs = vs} tokens first e i = record {
   reads = after-first tokens first i.reads;
 }
 
-pub table-read : {octets : List ℕ} {source : Tokens} {rows ps : Pairs} (tokens : List Placed) (first : Placed) → first.lexeme ≡ brace_open
+pub table-read : {octets : List ℕ} {source : Tokens} {rows ps : Pairs} (tokens : List Located) (first : Located) → first.lexeme ≡ brace_open
     → ReadsRows octets (tokens ++ first ∷ []) (brace_close ∷ []) rows source → AreSorted rows ps → ReadsValue octets tokens first.lexeme (table ps) source
 table-read {ps = ps} tokens first e r s = record {
   inside = r.inside;
@@ -73,7 +73,7 @@ table-read {ps = ps} tokens first e r s = record {
   reads = after-first tokens first r.reads;
 }
 
-pub no-items-read : {octets : List ℕ} {source : Tokens} {tokens : List Placed} → HasRead octets tokens source → ReadsItems octets tokens [] no_items source
+pub no-items-read : {octets : List ℕ} {source : Tokens} {tokens : List Located} → HasRead octets tokens source → ReadsItems octets tokens [] no_items source
 no-items-read h = record { inside = λ rest. rest; spells = λ rest. items_end; reads = reads-none h }
 
 -- the token after an item, and what is left of the end
@@ -86,15 +86,15 @@ ended-items : {l : Lexeme} {tokens more rest end : List Lexeme} {vs : Items} {w 
 ended-items continued p q = items-more p q
 ended-items closed p q = items-last p q
 
-pub item-read : {octets : List ℕ} {old mid source : Tokens} {tokens : List Placed} {first l : Lexeme} {end : List Lexeme} {vs : Items} {w : Plist} (i : ReadsItems octets tokens [] vs old)
-    (v : ReadsValue octets i.reads.all first w mid) (token : Placed) → EndsItem l end → token.lexeme ≡ l → HasRead octets (v.reads.all ++ token ∷ []) source → ReadsItems octets tokens end (push vs w) source
+pub item-read : {octets : List ℕ} {old mid source : Tokens} {tokens : List Located} {first l : Lexeme} {end : List Lexeme} {vs : Items} {w : Plist} (i : ReadsItems octets tokens [] vs old)
+    (v : ReadsValue octets i.reads.all first w mid) (token : Located) → EndsItem l end → token.lexeme ≡ l → HasRead octets (v.reads.all ++ token ∷ []) source → ReadsItems octets tokens end (push vs w) source
 item-read {first = first} {l = l} i v token ends e h = record {
   inside = λ rest. i.inside (first ∷ v.inside (l ∷ rest));
   spells = λ rest. ended-items ends (i.spells (first ∷ v.inside (l ∷ rest))) (v.spells (l ∷ rest));
   reads = reads-then i.reads (reads-then v.reads (reads-token v.reads.all token l e h));
 }
 
-pub items-read : {octets : List ℕ} {old source : Tokens} {tokens : List Placed} {vs : Items} (i : ReadsItems octets tokens [] vs old) (token : Placed) → token.lexeme ≡ paren_close
+pub items-read : {octets : List ℕ} {old source : Tokens} {tokens : List Located} {vs : Items} (i : ReadsItems octets tokens [] vs old) (token : Located) → token.lexeme ≡ paren_close
     → HasRead octets (i.reads.all ++ token ∷ []) source → ReadsItems octets tokens (paren_close ∷ []) vs source
 items-read i token e h = record {
   inside = λ rest. i.inside (paren_close ∷ rest);
@@ -102,7 +102,7 @@ items-read i token e h = record {
   reads = reads-then i.reads (reads-token i.reads.all token paren_close e h);
 }
 
-pub ended-read : {octets : List ℕ} {mid source : Tokens} {v : Plist} (tokens : List Placed) (first : Placed) (r : ReadsValue octets tokens first.lexeme v mid) (token : Placed)
+pub ended-read : {octets : List ℕ} {mid source : Tokens} {v : Plist} (tokens : List Located) (first : Located) (r : ReadsValue octets tokens first.lexeme v mid) (token : Located)
     → token.lexeme ≡ semicolon → HasRead octets (r.reads.all ++ token ∷ []) source → ReadsEnded octets tokens v source
 ended-read tokens first r token e h = record {
   inside = λ rest. first.lexeme ∷ r.inside (semicolon ∷ rest);
@@ -110,7 +110,7 @@ ended-read tokens first r token e h = record {
   reads = reads-then r.reads (reads-token r.reads.all token semicolon e h);
 }
 
-pub row-read : {octets : List ℕ} {source : Tokens} {v : Plist} (tokens : List Placed) (at token : Placed) (key : List ℕ) → at.lexeme ≡ string key → token.lexeme ≡ equals
+pub row-read : {octets : List ℕ} {source : Tokens} {v : Plist} (tokens : List Located) (at token : Located) (key : List ℕ) → at.lexeme ≡ string key → token.lexeme ≡ equals
     → ReadsEnded octets ((tokens ++ at ∷ []) ++ token ∷ []) v source → ReadsRow octets tokens key v source
 row-read {octets} {source} tokens at token key l e r = record {
   inside = λ rest. string key ∷ equals ∷ r.inside rest;
@@ -120,7 +120,7 @@ row-read {octets} {source} tokens at token key l e r = record {
       (after-first tokens at (after-first (tokens ++ at ∷ []) token r.reads)));
 }
 
-pub alone-read : {octets : List ℕ} {source : Tokens} (tokens : List Placed) (at token : Placed) (key : List ℕ) → at.lexeme ≡ string key → token.lexeme ≡ semicolon
+pub alone-read : {octets : List ℕ} {source : Tokens} (tokens : List Located) (at token : Located) (key : List ℕ) → at.lexeme ≡ string key → token.lexeme ≡ semicolon
     → HasRead octets ((tokens ++ at ∷ []) ++ token ∷ []) source → ReadsRow octets tokens key (scalar (text key)) source
 alone-read {octets} {source} tokens at token key l e h = record {
   inside = λ rest. string key ∷ semicolon ∷ rest;
@@ -129,10 +129,10 @@ alone-read {octets} {source} tokens at token key l e h = record {
       (after-first tokens at (reads-token (tokens ++ at ∷ []) token semicolon e h));
 }
 
-pub no-rows-read : {octets : List ℕ} {source : Tokens} {tokens : List Placed} → HasRead octets tokens source → ReadsRows octets tokens [] no_pairs source
+pub no-rows-read : {octets : List ℕ} {source : Tokens} {tokens : List Located} → HasRead octets tokens source → ReadsRows octets tokens [] no_pairs source
 no-rows-read h = record { inside = λ rest. rest; spells = λ rest. rows_end; reads = reads-none h }
 
-pub row-more-read : {octets : List ℕ} {old source : Tokens} {tokens : List Placed} {rows : Pairs} {key : List ℕ} {v : Plist} (r : ReadsRows octets tokens [] rows old)
+pub row-more-read : {octets : List ℕ} {old source : Tokens} {tokens : List Located} {rows : Pairs} {key : List ℕ} {v : Plist} (r : ReadsRows octets tokens [] rows old)
     → ReadsRow octets r.reads.all key v source → has_key key rows ≡ false → ReadsRows octets tokens [] (push_row rows key v) source
 row-more-read r s n = record {
   inside = λ rest. r.inside (s.inside rest);
@@ -140,7 +140,7 @@ row-more-read r s n = record {
   reads = reads-then r.reads s.reads;
 }
 
-pub rows-read : {octets : List ℕ} {old source : Tokens} {tokens : List Placed} {rows : Pairs} (r : ReadsRows octets tokens [] rows old) (token : Placed) → token.lexeme ≡ brace_close
+pub rows-read : {octets : List ℕ} {old source : Tokens} {tokens : List Located} {rows : Pairs} (r : ReadsRows octets tokens [] rows old) (token : Located) → token.lexeme ≡ brace_close
     → HasRead octets (r.reads.all ++ token ∷ []) source → ReadsRows octets tokens (brace_close ∷ []) rows source
 rows-read r token e h = record {
   inside = λ rest. r.inside (brace_close ∷ rest);
@@ -149,10 +149,10 @@ rows-read r token e h = record {
 }
 
 -- rows that are the pairs, once sorted by their keys
-pub no-pairs-read : {octets : List ℕ} {tokens : List Placed} {source : Tokens} → HasRead octets tokens source → ReadsPairs octets tokens [] no_pairs source
+pub no-pairs-read : {octets : List ℕ} {tokens : List Located} {source : Tokens} → HasRead octets tokens source → ReadsPairs octets tokens [] no_pairs source
 no-pairs-read h = record { rows = no_pairs; read = no-rows-read h; same = none }
 
-pub pair-read : {octets : List ℕ} {tokens : List Placed} {ps : Pairs} {key : List ℕ} {v : Plist} {old after : Tokens} (r : ReadsPairs octets tokens [] ps old)
+pub pair-read : {octets : List ℕ} {tokens : List Located} {ps : Pairs} {key : List ℕ} {v : Plist} {old after : Tokens} (r : ReadsPairs octets tokens [] ps old)
     → ReadsRow octets r.read.reads.all key v after → has_key key ps ≡ false → ReadsPairs octets tokens [] (put_pair key v ps) after
 pair-read {ps = ps} {key = key} {v = v} r s n = record {
   rows = push_row r.rows key v;
@@ -160,11 +160,11 @@ pair-read {ps = ps} {key = key} {v = v} r s n = record {
   same = reordered-more r.same (put-stands key v ps n);
 }
 
-pub pairs-read : {octets : List ℕ} {tokens : List Placed} {ps : Pairs} {old after : Tokens} (r : ReadsPairs octets tokens [] ps old) (token : Placed) → token.lexeme ≡ brace_close
+pub pairs-read : {octets : List ℕ} {tokens : List Located} {ps : Pairs} {old after : Tokens} (r : ReadsPairs octets tokens [] ps old) (token : Located) → token.lexeme ≡ brace_close
     → HasRead octets (r.read.reads.all ++ token ∷ []) after → ReadsPairs octets tokens (brace_close ∷ []) ps after
 pairs-read r token e h = record { rows = r.rows; read = rows-read r.read token e h; same = r.same }
 
-pub pairs-table : {octets : List ℕ} {ps : Pairs} {after : Tokens} (tokens : List Placed) (first : Placed) → first.lexeme ≡ brace_open
+pub pairs-table : {octets : List ℕ} {ps : Pairs} {after : Tokens} (tokens : List Located) (first : Located) → first.lexeme ≡ brace_open
     → ReadsPairs octets (tokens ++ first ∷ []) (brace_close ∷ []) ps after → ArePairs ps → ReadsValue octets tokens first.lexeme (table ps) after
 pairs-table {ps = ps} tokens first e r a = table-read tokens first e r.read (record { same = r.same; ascending = pairs-ascend ps a })
 

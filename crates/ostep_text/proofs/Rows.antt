@@ -3,11 +3,11 @@ use Rattle.std.proofs.Common.{◌≡◌, ℕ, zero, suc, ◌<◌, List, true, So
 use Rattle.std.specs.Prelude.{codes}
 use Rattle.std.specs.Char.{encode_utf8}
 use Rattle.plist_value.specs.Plist.{text, flag, bytes, Plist, scalar, list, table, no_items, item, Pairs, no_pairs, pair, AreUnits}
-use Rattle.ostep_lex.specs.Encoding.{Spells, places_of}
+use Rattle.ostep_lex.specs.Encoding.{Spells, offsets_of}
 use Rattle.ostep_lex.specs.Gap
 use Rattle.ostep_lex.specs.Quoted
 use Rattle.ostep_lex.specs.Lexeme
-use Rattle.ostep_lex.specs.Lexeme.{Lexeme, Placed, brace_open, brace_close, paren_open, paren_close, comma, semicolon, equals, text as string, octets as data_token}
+use Rattle.ostep_lex.specs.Lexeme.{Lexeme, Located, brace_open, brace_close, paren_open, paren_close, comma, semicolon, equals, text as string, octets as data_token}
 use Rattle.ostep_lex.specs.Lexing.{Lexes, none, next}
 use Rattle.ostep_lex.proofs.Rows.{at}
 use Rattle.ostep_text.specs.Sorting
@@ -139,7 +139,7 @@ pub value_at_key : NodeAt (brace_open ∷ a ∷ semicolon ∷ []) (record { open
 value_at_key = Begun.value (Begun.at_key (Begun.new_key (Begun.after_brace Begun.front) Phrase.rows_end refl)) refl
 
 -- the tokens before an offset, and those from it on
-splits : {octets : List ℕ} (tokens others : List Placed) (whole : List ℕ) → Spells octets whole → Lexes (places_of octets) whole (tokens ++ others)
+splits : {octets : List ℕ} (tokens others : List Located) (whole : List ℕ) → Spells octets whole → Lexes (offsets_of octets) whole (tokens ++ others)
     → Splits octets (start_of octets others) (lexemes tokens) (lexemes others)
 splits tokens others whole spells lexes = record {
   tokens = tokens;

@@ -9,7 +9,7 @@ use Rattle.std.proofs.lemmas.Str.{digit_value-digit_char}
 use Rattle.std.specs.List.{starts_with}
 use Rattle.plist_value.specs.Plist.{Scalar, text, whole, flag, real4, real8, moment, bytes, Plist, scalar, list, table, Items, no_items, item, Pairs, no_pairs, pair, AreItems, ArePairs, IsPlist, AreUnits, AreOctets}
 use Rattle.plist_value.specs.Limits.{nodes, nodes_of_items, nodes_of_pairs, payload, payload_of_items, payload_of_pairs}
-use Rattle.ostep_lex.specs.Lexeme.{Lexeme, brace_open, brace_close, paren_open, paren_close, comma, semicolon, equals, text as string, octets as data_token, IsToken, Placed, mark_token}
+use Rattle.ostep_lex.specs.Lexeme.{Lexeme, brace_open, brace_close, paren_open, paren_close, comma, semicolon, equals, text as string, octets as data_token, IsToken, Located, mark_token}
 use Rattle.ostep_text.specs.Phrase.{Phrase, a_string, some_data, a_list, a_table, ItemsPhrase, items_end, an_item, RowsPhrase, with_value, rows_end, a_row}
 use Rattle.plist_value.specs.Writable.{is_writable, are_writable_items, are_writable_pairs}
 use Rattle.ostep_text.specs.Written.{written_data, is_plain, quoted_unit, written_text, written, written_items, written_pairs, are_alphanumeric}
@@ -20,7 +20,7 @@ use Rattle.ostep_lex.specs.Quoted
 use Rattle.ostep_lex.specs.Quoted.{Piece, Quoted, escaped, is_raw, Run, begins_run}
 use Rattle.ostep_lex.specs.Octets
 use Rattle.ostep_lex.specs.Octets.{Octets, OctetsPiece}
-use Rattle.ostep_lex.specs.Encoding.{Places, place}
+use Rattle.ostep_lex.specs.Encoding.{Offsets, offset}
 use Rattle.ostep_lex.specs.Gap
 use Rattle.ostep_lex.specs.Gap.{begins_comment}
 use Rattle.ostep_lex.specs.Lexeme
@@ -217,26 +217,26 @@ units-run (unit ∷ units) rest h b =
     Quoted.more (alphanumeric-run unit w.0) (units-run units rest w.1 b)
 
 -- the text has tokens, which are these
-pub record Lexed (p : Places) (from : List ℕ) (ls : List Lexeme) : Type 0 where
-  pub tokens : List Placed
+pub record Lexed (p : Offsets) (from : List ℕ) (ls : List Lexeme) : Type 0 where
+  pub tokens : List Located
   pub lexes : Lexes p from tokens
   pub are : lexemes tokens ≡ ls
 
-white-lexes : {p : Places} {c : ℕ} {rest : List ℕ} {tokens : List Placed} → is_white c ≡ true → Lexes p rest tokens → Lexes p (c ∷ rest) tokens
+white-lexes : {p : Offsets} {c : ℕ} {rest : List ℕ} {tokens : List Located} → is_white c ≡ true → Lexes p rest tokens → Lexes p (c ∷ rest) tokens
 white-lexes w (none g) = none (Gap.piece (Gap.white w) g)
 white-lexes w (next g t r) = next (Gap.piece (Gap.white w) g) t r
 
-white-more : {p : Places} {c : ℕ} {rest : List ℕ} {ls : List Lexeme} → is_white c ≡ true → Lexed p rest ls → Lexed p (c ∷ rest) ls
+white-more : {p : Offsets} {c : ℕ} {rest : List ℕ} {ls : List Lexeme} → is_white c ≡ true → Lexed p rest ls → Lexed p (c ∷ rest) ls
 white-more w d = record { tokens = d.tokens; lexes = white-lexes w d.lexes; are = d.are }
 
-token-more : {p : Places} {from after : List ℕ} {l : Lexeme} {ls : List Lexeme} → IsToken from l after → Lexed p after ls → Lexed p from (l ∷ ls)
+token-more : {p : Offsets} {from after : List ℕ} {l : Lexeme} {ls : List Lexeme} → IsToken from l after → Lexed p after ls → Lexed p from (l ∷ ls)
 token-more {p} {from} {after} {l} t d = record {
-  tokens = record { lexeme = l; start = place p from; end = place p after } ∷ d.tokens;
+  tokens = record { lexeme = l; start = offset p from; end = offset p after } ∷ d.tokens;
   lexes = next Gap.none t d.lexes;
   are = ap (λ x. l ∷ x) d.are;
 }
 
-mark-more : {p : Places} {c : ℕ} {rest : List ℕ} {l : Lexeme} {ls : List Lexeme} → mark_token c ≡ Some l → Lexed p rest ls → Lexed p (c ∷ rest) (l ∷ ls)
+mark-more : {p : Offsets} {c : ℕ} {rest : List ℕ} {l : Lexeme} {ls : List Lexeme} → mark_token c ≡ Some l → Lexed p rest ls → Lexed p (c ∷ rest) (l ∷ ls)
 mark-more m d = token-more (Lexeme.mark m) d
 
 if-token : (b : Bool) (xs ys rest : List ℕ) (l : Lexeme) → (b ≡ true → IsToken (xs ++ rest) l rest) → (b ≡ false → IsToken (ys ++ rest) l rest)
@@ -263,7 +263,7 @@ text-token units rest h b =
 bytes-token : (xs rest : List ℕ) → AreOctets xs → IsToken (written_data xs ++ rest) (data_token xs) rest
 bytes-token xs rest h = rw (append_assoc (flat_map two_digits xs) (62 ∷ []) rest) (Lexeme.data_token (octets-data xs rest h))
 
-scalar-lexed : {p : Places} {rest : List ℕ} {ls : List Lexeme} (s : Scalar) → IsPlist (scalar s) → is_writable (scalar s) ≡ true → begins_run rest ≡ false → Lexed p rest ls
+scalar-lexed : {p : Offsets} {rest : List ℕ} {ls : List Lexeme} (s : Scalar) → IsPlist (scalar s) → is_writable (scalar s) ≡ true → begins_run rest ≡ false → Lexed p rest ls
     → Lexed p (written (scalar s) ++ rest) (value_tokens (scalar s) ls)
 scalar-lexed {rest = rest} (text units) h e b d = token-more (text-token units rest h b) d
 scalar-lexed {rest = rest} (bytes xs) h e b d = token-more (bytes-token xs rest h) d
@@ -280,7 +280,7 @@ five : (a b c d e f : List ℕ) → ((((a ++ b) ++ c) ++ d) ++ e) ++ f ≡ a ++ 
 five a b c d e f = three ((a ++ b) ++ c) d e f ∙ three a b c (d ++ (e ++ f))
 
 mutual
-  pub value-lexed : (p : Places) (v : Plist) (rest : List ℕ) (ls : List Lexeme) → IsPlist v → is_writable v ≡ true → begins_run rest ≡ false → Lexed p rest ls
+  pub value-lexed : (p : Offsets) (v : Plist) (rest : List ℕ) (ls : List Lexeme) → IsPlist v → is_writable v ≡ true → begins_run rest ≡ false → Lexed p rest ls
       → Lexed p (written v ++ rest) (value_tokens v ls)
   value-lexed p (scalar s) rest ls h e b d = scalar-lexed s h e b d
   value-lexed p (list vs) rest ls h e b d =
@@ -288,7 +288,7 @@ mutual
   value-lexed p (table ps) rest ls h e b d =
       rw (append_assoc (written_pairs ps) (125 ∷ []) rest) (mark-more refl (white-more refl (pairs-lexed p ps (125 ∷ rest) (brace_close ∷ ls) h e (mark-more refl d))))
 
-  items-lexed : (p : Places) (vs : Items) (rest : List ℕ) (ls : List Lexeme) → AreItems vs → are_writable_items vs ≡ true → Lexed p rest ls
+  items-lexed : (p : Offsets) (vs : Items) (rest : List ℕ) (ls : List Lexeme) → AreItems vs → are_writable_items vs ≡ true → Lexed p rest ls
       → Lexed p (written_items vs ++ rest) (item_tokens vs ls)
   items-lexed p no_items rest ls h e d = d
   items-lexed p (item v vs) rest ls h e d =
@@ -296,7 +296,7 @@ mutual
       rw (three (written v) (codes ",\n") (written_items vs) rest)
       (value-lexed p v _ (comma ∷ item_tokens vs ls) h.0 w.0 refl (mark-more refl (white-more refl (items-lexed p vs rest ls h.1 w.1 d))))
 
-  pairs-lexed : (p : Places) (ps : Pairs) (rest : List ℕ) (ls : List Lexeme) → ArePairs ps → are_writable_pairs ps ≡ true → Lexed p rest ls
+  pairs-lexed : (p : Offsets) (ps : Pairs) (rest : List ℕ) (ls : List Lexeme) → ArePairs ps → are_writable_pairs ps ≡ true → Lexed p rest ls
       → Lexed p (written_pairs ps ++ rest) (pair_tokens ps ls)
   pairs-lexed p no_pairs rest ls h e d = d
   pairs-lexed p (pair key v ps) rest ls h e d =

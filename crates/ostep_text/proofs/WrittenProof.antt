@@ -13,7 +13,7 @@ use Rattle.plist_value.specs.Writable.{is_writable}
 use Rattle.ostep_text.specs.Written.{are_alphanumeric, is_plain, is_empty, quoted_unit, written_text, written, written_items, written_pairs}
 use Rattle.plist_value.specs.Digits.{two_digits}
 use Rattle.plist_value.specs.Plist.{Scalar, text, bytes, Plist, scalar, list, table, Items, no_items, item, Pairs, no_pairs, pair, AreUnits, AreOctets, AreItems, ArePairs, IsPlist}
-use Rattle.ostep_lex.specs.Encoding.{Spells, utf8, octets_of, encoding_of, mark_of, places_of}
+use Rattle.ostep_lex.specs.Encoding.{Spells, utf8, octets_of, encoding_of, mark_of, offsets_of}
 use Rattle.plist_value.specs.Limits.{Fits}
 use Rattle.ostep_lex.specs.Gap
 use Rattle.ostep_lex.specs.Lexing.{none}
@@ -164,7 +164,7 @@ stated false xs octets e = cc e
 short-text : (v : Plist) → IsPlist v → Fits v → is_writable v ≡ true → IsShortText (written v ++ codes "\n") v
 short-text v valid fits w =
     let octets : List ℕ = written v ++ codes "\n" in
-    let d : Lexed (places_of octets) octets _ = value-lexed (places_of octets) v (10 ∷ []) [] valid w refl (record { tokens = []; lexes = none (Gap.piece (Gap.white refl) Gap.none); are = refl }) in
+    let d : Lexed (offsets_of octets) octets _ = value-lexed (offsets_of octets) v (10 ∷ []) [] valid w refl (record { tokens = []; lexes = none (Gap.piece (Gap.white refl) Gap.none); are = refl }) in
     record {
       is_text = record {
         tokens = d.tokens;

@@ -2,14 +2,14 @@
 use Rattle.std.specs.Prelude.{Bool, true, false, ⊤}
 use Rattle.plist_value.specs.Plist.{AreUnits}
 use Rattle.plist_value.specs.Texts.{units_of}
-use Rattle.ostep_lex.specs.Lexeme.{Lexeme, Placed, placed, placed_plain, text}
+use Rattle.ostep_lex.specs.Lexeme.{Lexeme, Located, located, placed_plain, text}
 use Rattle.ostep_lex.specs.Lexeme.{paren_close, brace_close}
 use Rattle.ostep_text.specs.declared.first.First.{First}
 use Rattle.ostep_text.specs.declared.first.First.TheVariants.{Plain, Other}
 
-abbrev pub first_placed : First → Placed
+abbrev pub first_placed : First → Located
 first_placed (Plain token) = placed_plain token
-first_placed (Other token) = placed token
+first_placed (Other token) = located token
 
 -- its units have 16 bits
 abbrev pub IsValid : First → Type 0

@@ -7,7 +7,7 @@ use Rattle.plist_value.specs.Plist.{Plist, Items, Pairs, IsPlist, AreItems, AreP
 use Rattle.plist_value.specs.Limits.{nodes, depth, payload, nodes_of_items, depth_of_items}
 use Rattle.plist_value.specs.Limits.{payload_of_items, nodes_of_pairs, depth_of_pairs}
 use Rattle.plist_value.specs.Limits.{payload_of_pairs}
-use Rattle.ostep_lex.specs.Lexeme.{Lexeme, semicolon, Placed}
+use Rattle.ostep_lex.specs.Lexeme.{Lexeme, semicolon, Located}
 use Rattle.ostep_lex.specs.Lexing.{HasTokens}
 use Rattle.ostep_lex.specs.Cursor.{IsAfter}
 use Rattle.ostep_text.specs.declared.fault.TextFault.{TextFault}
@@ -24,17 +24,17 @@ use Rattle.ostep_text.specs.declared.tokens.Tokens.{Tokens}
 abbrev pub Front : Type 0
 Front = List Lexeme → List Lexeme
 
-abbrev pub AreBefore : List Placed → Front → Type 0
+abbrev pub AreBefore : List Located → Front → Type 0
 AreBefore tokens whole = (rest : List Lexeme) → lexemes tokens ++ rest ≡ whole rest
 
 -- these tokens of the input were read
-pub record HasRead (octets : List ℕ) (tokens : List Placed) (source : Tokens) : Type 0 where
+pub record HasRead (octets : List ℕ) (tokens : List Located) (source : Tokens) : Type 0 where
   pub after : IsAfter octets tokens source.cursor
   pub ends : source.end ≡ length octets
 
 -- the fault is true if the bytes have tokens
 abbrev pub StandsIfLexed : List ℕ → TextFault → Type 0
-StandsIfLexed octets fault = (all : List Placed) → HasTokens octets all → Stands octets fault
+StandsIfLexed octets fault = (all : List Located) → HasTokens octets all → Stands octets fault
 
 -- if the node at this byte exceeds a limit, the fault of that limit is true
 pub record MayRefuse (octets : List ℕ) (at levels load : ℕ) (left : Budget) : Type 0 where
@@ -50,50 +50,50 @@ pub record IsLeft (left : Budget) (levels : ℕ) (b : Before) : Type 0 where
 
 -- more tokens were read up to the state `source`, namely those that `inside` puts before the
 -- remaining ones
-pub record ReadsOn (octets : List ℕ) (tokens : List Placed) (inside : Front)
+pub record ReadsOn (octets : List ℕ) (tokens : List Located) (inside : Front)
     (source : Tokens) : Type 0 where
-  pub all : List Placed
+  pub all : List Located
   pub has : HasRead octets all source
   pub follow : (whole : Front) → AreBefore tokens whole
       → AreBefore all (λ rest. whole (inside rest))
 
 -- the tokens from the first on were a phrase of the value, in the second record with the `;` after
 -- it
-pub record ReadsValue (octets : List ℕ) (tokens : List Placed) (first : Lexeme) (v : Plist)
+pub record ReadsValue (octets : List ℕ) (tokens : List Located) (first : Lexeme) (v : Plist)
     (source : Tokens) : Type 0 where
   pub inside : Front
   pub spells : (rest : List Lexeme) → Phrase (first ∷ inside rest) v rest
   pub reads : ReadsOn octets tokens (λ rest. first ∷ inside rest) source
 
-pub record ReadsEnded (octets : List ℕ) (tokens : List Placed) (v : Plist)
+pub record ReadsEnded (octets : List ℕ) (tokens : List Located) (v : Plist)
     (source : Tokens) : Type 0 where
   pub inside : Front
   pub spells : (rest : List Lexeme) → Phrase (inside rest) v (semicolon ∷ rest)
   pub reads : ReadsOn octets tokens inside source
 
 -- the tokens were items: the first ones, or all and the parenthesis after them
-pub record ReadsItems (octets : List ℕ) (tokens : List Placed) (end : List Lexeme) (vs : Items)
+pub record ReadsItems (octets : List ℕ) (tokens : List Located) (end : List Lexeme) (vs : Items)
     (source : Tokens) : Type 0 where
   pub inside : Front
   pub spells : (rest : List Lexeme) → ItemsPhrase (inside rest) vs (end ++ rest)
   pub reads : ReadsOn octets tokens inside source
 
 -- the tokens were a row
-pub record ReadsRow (octets : List ℕ) (tokens : List Placed) (key : List ℕ) (v : Plist)
+pub record ReadsRow (octets : List ℕ) (tokens : List Located) (key : List ℕ) (v : Plist)
     (source : Tokens) : Type 0 where
   pub inside : Front
   pub spells : (rest : List Lexeme) → RowPhrase (inside rest) key v rest
   pub reads : ReadsOn octets tokens inside source
 
 -- the tokens were rows in this order: the first ones, or all and the brace after them
-pub record ReadsRows (octets : List ℕ) (tokens : List Placed) (end : List Lexeme) (rows : Pairs)
+pub record ReadsRows (octets : List ℕ) (tokens : List Located) (end : List Lexeme) (rows : Pairs)
     (source : Tokens) : Type 0 where
   pub inside : Front
   pub spells : (rest : List Lexeme) → RowsPhrase (inside rest) rows (end ++ rest)
   pub reads : ReadsOn octets tokens inside source
 
 -- the same rows, sorted by their keys, are the pairs
-pub record ReadsPairs (octets : List ℕ) (tokens : List Placed) (end : List Lexeme) (pairs : Pairs)
+pub record ReadsPairs (octets : List ℕ) (tokens : List Located) (end : List Lexeme) (pairs : Pairs)
     (source : Tokens) : Type 0 where
   pub rows : Pairs
   pub read : ReadsRows octets tokens end rows source

@@ -2,10 +2,10 @@
 use Rattle.std.specs.Prelude.{◌≡◌, ℕ, ◌+◌, ◌*◌, ◌<◌, ◌≤◌, true, List, [], ◌∷◌, ◌++◌, length, ⊤}
 use Rattle.plist_value.specs.Plist.{Plist, Pairs}
 use Rattle.plist_value.specs.declared.TheConstants.{MAX_NODES, MAX_DEPTH, MAX_PAYLOAD}
-use Rattle.ostep_lex.specs.Lexeme.{Lexeme, text as string, octets as data_token, Placed}
+use Rattle.ostep_lex.specs.Lexeme.{Lexeme, text as string, octets as data_token, Located}
 use Rattle.ostep_lex.specs.Lexing.{HasTokens}
 use Rattle.ostep_lex.specs.declared.fault.LexFault.TheVariants as tokens
-use Rattle.ostep_lex.specs.Stands.{Stands as StandsInTokens}
+use Rattle.ostep_lex.specs.Stands.{StandsInTokens as StandsInTokens}
 use Rattle.ostep_text.specs.declared.fault.TextFault.{TextFault}
 use Rattle.ostep_text.specs.declared.fault.TextFault.TheVariants.{BadUtf8, XmlForm}
 use Rattle.ostep_text.specs.declared.fault.TextFault.TheVariants.{UnexpectedCharacter}
@@ -21,14 +21,14 @@ use Rattle.ostep_text.specs.Begun.{Before, RowsAt, NodeAt}
 use Rattle.ostep_text.specs.Text.{lexemes}
 
 -- where the first token begins, or the number of bytes
-abbrev pub start_of : List ℕ → List Placed → ℕ
+abbrev pub start_of : List ℕ → List Located → ℕ
 start_of octets [] = length octets
 start_of octets (token ∷ others) = token.start
 
 -- the bytes have tokens, these before offset `at` and those from it on
 pub record Splits (octets : List ℕ) (at : ℕ) (before from : List Lexeme) : Type 0 where
-  pub tokens : List Placed
-  pub others : List Placed
+  pub tokens : List Located
+  pub others : List Located
   pub has : HasTokens octets (tokens ++ others)
   pub before_are : lexemes tokens ≡ before
   pub from_are : lexemes others ≡ from

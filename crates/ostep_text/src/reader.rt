@@ -5,7 +5,7 @@ ghost use Rattle.std.specs.Result.{OnOk};
 ghost use Rattle.plist_value.specs.Plist.{Pairs, AreUnits, scalar, text as units};
 ghost use Rattle.plist_value.specs.Texts.{units_of};
 ghost use Rattle.plist_value.specs.Budget.{Spends};
-ghost use Rattle.ostep_lex.specs.Lexeme.{Placed, placed, lexeme_of, text as string, paren_close};
+ghost use Rattle.ostep_lex.specs.Lexeme.{Located, located, lexeme_of, text as string, paren_close};
 ghost use Rattle.ostep_lex.specs.Lexeme.{brace_close};
 ghost use Rattle.ostep_lex.specs.Cursor.{ahead};
 ghost use Rattle.ostep_text.specs.Begun.{Before, opened, with_rows};
@@ -55,10 +55,10 @@ impl<'a> Reader<'a> {
         ensures kept { OnOk result (Keeps (objects self.old.draft) (objects self.new.draft)) }
         ensures built { IfOk result (λ number. IsBuilt (SpellsIn (objects self.new.draft)) number
             (λ v. Takes self.old.left levels v self.new.left)
-            (λ v. (octets : List ℕ) (tokens : List Placed)
+            (λ v. (octets : List ℕ) (tokens : List Located)
             → HasRead octets (tokens ++ first_placed first.entry ∷ []) self.old.tokens
             → ReadsValue octets tokens (first_placed first.entry).lexeme v self.new.tokens)) }
-        ensures stands { (octets : List ℕ) (tokens : List Placed) (whole : Front) (b : Before)
+        ensures stands { (octets : List ℕ) (tokens : List Located) (whole : Front) (b : Before)
             (a : Around) → AreBefore tokens whole
             → HasRead octets (tokens ++ first_placed first.entry ∷ []) self.old.tokens
             → ValueDue whole b a (first_placed first.entry).lexeme
@@ -78,12 +78,12 @@ impl<'a> Reader<'a> {
         ensures kept { OnOk result (Keeps (objects self.old.draft) (objects self.new.draft)) }
         ensures built { IfOk result (λ number. IsBuilt (SpellsIn (objects self.new.draft)) number
             (λ v. Takes self.old.left levels v self.new.left)
-            (λ v. (octets : List ℕ) (tokens : List Placed)
-            → HasRead octets (tokens ++ placed first ∷ []) self.old.tokens
+            (λ v. (octets : List ℕ) (tokens : List Located)
+            → HasRead octets (tokens ++ located first ∷ []) self.old.tokens
             → ReadsValue octets tokens (lexeme_of first.kind) v self.new.tokens)) }
-        ensures stands { (octets : List ℕ) (tokens : List Placed) (whole : Front) (b : Before)
+        ensures stands { (octets : List ℕ) (tokens : List Located) (whole : Front) (b : Before)
             (a : Around) → AreBefore tokens whole
-            → HasRead octets (tokens ++ placed first ∷ []) self.old.tokens
+            → HasRead octets (tokens ++ located first ∷ []) self.old.tokens
             → ValueDue whole b a (lexeme_of first.kind) → IsLeft self.old.left levels b
             → IfErr result (Stands octets) }
     {
@@ -117,9 +117,9 @@ impl<'a> Reader<'a> {
         ensures built { IfOk result (λ items.
             IsBuilt (SpellItemsIn (objects self.new.draft)) items.items
             (λ vs. TakesItems self.old.left levels vs self.new.left)
-            (λ vs. (octets : List ℕ) (tokens : List Placed) → HasRead octets tokens self.old.tokens
+            (λ vs. (octets : List ℕ) (tokens : List Located) → HasRead octets tokens self.old.tokens
             → ReadsItems octets tokens (paren_close ∷ []) vs self.new.tokens)) }
-        ensures stands { (octets : List ℕ) (tokens : List Placed) (whole : Front) (b : Before)
+        ensures stands { (octets : List ℕ) (tokens : List Located) (whole : Front) (b : Before)
             (a : Around) → AreBefore tokens whole → HasRead octets tokens self.old.tokens
             → ListDue whole b a → IsLeft self.old.left levels (opened b)
             → IfErr result (Stands octets) }
@@ -154,9 +154,9 @@ impl<'a> Reader<'a> {
         ensures kept { OnOk result (Keeps (objects self.old.draft) (objects self.new.draft)) }
         ensures built { IfOk result (λ rows. IsBuilt (SpellsRows (objects self.new.draft)) rows
             (λ ps. TakesPairs self.old.left levels ps self.new.left)
-            (λ ps. (octets : List ℕ) (tokens : List Placed) → HasRead octets tokens self.old.tokens
+            (λ ps. (octets : List ℕ) (tokens : List Located) → HasRead octets tokens self.old.tokens
             → ReadsPairs octets tokens (brace_close ∷ []) ps self.new.tokens)) }
-        ensures stands { (octets : List ℕ) (tokens : List Placed) (whole : Front) (b : Before)
+        ensures stands { (octets : List ℕ) (tokens : List Located) (whole : Front) (b : Before)
             (a : Around) → AreBefore tokens whole → HasRead octets tokens self.old.tokens
             → TableDue whole b a → IsLeft self.old.left levels (opened b)
             → IfErr result (Stands octets) }
@@ -196,10 +196,10 @@ impl<'a> Reader<'a> {
         ensures built { IfOk result (λ row.
             IsBuilt (SpellsRow (objects self.new.draft) key.now) row
             (λ v. TakesRow self.old.left levels key.now v self.new.left)
-            (λ v. (octets : List ℕ) (tokens : List Placed) (at : Placed)
+            (λ v. (octets : List ℕ) (tokens : List Located) (at : Located)
             → at.lexeme ≡ string key.now → HasRead octets (tokens ++ at ∷ []) self.old.tokens
             → ReadsRow octets tokens key.now v self.new.tokens)) }
-        ensures stands { (octets : List ℕ) (tokens : List Placed) (at : Placed) (whole : Front)
+        ensures stands { (octets : List ℕ) (tokens : List Located) (at : Located) (whole : Front)
             (b : Before) (t : Around) (before pairs : Pairs)
             → at.lexeme ≡ string key.now → at.start ≡ octet → AreBefore tokens whole
             → HasRead octets (tokens ++ at ∷ []) self.old.tokens
@@ -237,9 +237,9 @@ impl<'a> Reader<'a> {
         ensures kept { OnOk result (Keeps (objects self.old.draft) (objects self.new.draft)) }
         ensures built { IfOk result (λ number. IsBuilt (SpellsIn (objects self.new.draft)) number
             (λ v. Takes self.old.left levels v self.new.left)
-            (λ v. (octets : List ℕ) (tokens : List Placed) → HasRead octets tokens self.old.tokens
+            (λ v. (octets : List ℕ) (tokens : List Located) → HasRead octets tokens self.old.tokens
             → ReadsEnded octets tokens v self.new.tokens)) }
-        ensures stands { (octets : List ℕ) (tokens : List Placed) (whole : Front) (b : Before)
+        ensures stands { (octets : List ℕ) (tokens : List Located) (whole : Front) (b : Before)
             (t : Around) → AreBefore tokens whole → HasRead octets tokens self.old.tokens
             → RowValueDue whole b t → IsLeft self.old.left levels b
             → IfErr result (Stands octets) }
@@ -272,7 +272,7 @@ impl<'a> Reader<'a> {
         ensures kept { OnOk result (Keeps (objects self.old.draft) (objects self.new.draft)) }
         ensures spells { IfOk result (λ number.
             SpellsIn (objects self.new.draft) number (scalar (units (units_of text.entry)))) }
-        ensures stands { (octets : List ℕ) (tokens : List Placed)
+        ensures stands { (octets : List ℕ) (tokens : List Located)
             → HasRead octets tokens self.old.tokens
             → MayRefuse octets octet levels (2 * length (units_of text.entry)) self.old.left
             → IfErr result (Stands octets) }
@@ -293,7 +293,7 @@ impl<'a> Reader<'a> {
         ensures deep { OnOk result (1 ≤ levels) }
         ensures tokens { self.new.tokens ≡ self.old.tokens }
         ensures draft { self.new.draft ≡ self.old.draft }
-        ensures stands { (octets : List ℕ) (tokens : List Placed)
+        ensures stands { (octets : List ℕ) (tokens : List Located)
             → HasRead octets tokens self.old.tokens
             → MayRefuse octets octet levels payload self.old.left
             → IfErr result (Stands octets) }

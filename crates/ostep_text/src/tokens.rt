@@ -2,7 +2,7 @@
 ghost use Rattle.std.specs.Prelude.{◌≡◌, ◌<◌, ◌∷◌, ◌++◌, [], ℕ, List, length};
 ghost use Rattle.std.specs.Prelude.{MatchOption, IfSome, IfNone, IfOk, IfErr};
 ghost use Rattle.std.specs.Result.{OnOk};
-ghost use Rattle.ostep_lex.specs.Lexeme.{Placed, placed, lexeme_of};
+ghost use Rattle.ostep_lex.specs.Lexeme.{Located, located, lexeme_of};
 ghost use Rattle.ostep_lex.specs.Lexing.{HasTokens};
 ghost use Rattle.ostep_lex.specs.Cursor.{ahead};
 ghost use Rattle.ostep_text.specs.Begun.{begins_value};
@@ -27,13 +27,13 @@ pub(crate) struct Tokens<'a> {
 impl<'a> Tokens<'a> {
     // Returns the next token, or `None` at the end of the text.
     pub(crate) fn next(&mut self) -> Result<Option<Token>, TextFault>
-        ensures read { (octets : List ℕ) (tokens : List Placed) → HasRead octets tokens self.old
+        ensures read { (octets : List ℕ) (tokens : List Located) → HasRead octets tokens self.old
             → IfOk result (λ found. MatchOption found (HasTokens octets tokens)
-            (λ token. HasRead octets (tokens ++ placed token ∷ []) self.new)) }
+            (λ token. HasRead octets (tokens ++ located token ∷ []) self.new)) }
         ensures stays { IfOk result (λ found. IfNone found (self.new ≡ self.old)) }
         ensures shorter { IfOk result (λ found. IfSome found (λ _.
             length (ahead self.new.cursor) < length (ahead self.old.cursor))) }
-        ensures stands { (octets : List ℕ) (tokens : List Placed)
+        ensures stands { (octets : List ℕ) (tokens : List Located)
             → HasRead octets tokens self.old → IfErr result (Stands octets) }
     {
         match next_token(self.alloc, self.cursor)? {
@@ -47,11 +47,11 @@ impl<'a> Tokens<'a> {
 
     // Returns the next token, or fails at the end of the text.
     pub(crate) fn expect(&mut self) -> Result<Token, TextFault>
-        ensures read { (octets : List ℕ) (tokens : List Placed) → HasRead octets tokens self.old
-            → IfOk result (λ token. HasRead octets (tokens ++ placed token ∷ []) self.new) }
+        ensures read { (octets : List ℕ) (tokens : List Located) → HasRead octets tokens self.old
+            → IfOk result (λ token. HasRead octets (tokens ++ located token ∷ []) self.new) }
         ensures shorter { OnOk result
             (length (ahead self.new.cursor) < length (ahead self.old.cursor)) }
-        ensures stands { (octets : List ℕ) (tokens : List Placed) (whole : Front)
+        ensures stands { (octets : List ℕ) (tokens : List Located) (whole : Front)
             → AreBefore tokens whole → HasRead octets tokens self.old → IsOpen whole
             → IfErr result (Stands octets) }
     {
@@ -65,13 +65,13 @@ impl<'a> Tokens<'a> {
     // Like [`next`](Tokens::next), but borrows a plain string from the input.
     #[inline(always)]
     pub(crate) fn next_first(&mut self) -> Result<Option<First<'a>>, TextFault>
-        ensures read { (octets : List ℕ) (tokens : List Placed) → HasRead octets tokens self.old
+        ensures read { (octets : List ℕ) (tokens : List Located) → HasRead octets tokens self.old
             → IfOk result (λ found. MatchOption found (HasTokens octets tokens)
             (λ first. HasRead octets (tokens ++ first_placed first ∷ []) self.new)) }
         ensures valid { IfOk result (λ found. IfSome found IsValid) }
         ensures shorter { IfOk result (λ found. IfSome found (λ _.
             length (ahead self.new.cursor) < length (ahead self.old.cursor))) }
-        ensures stands { (octets : List ℕ) (tokens : List Placed)
+        ensures stands { (octets : List ℕ) (tokens : List Located)
             → HasRead octets tokens self.old → IfErr result (Stands octets) }
     {
         if let Some((token, after)) = next_plain(self.cursor) {
@@ -87,13 +87,13 @@ impl<'a> Tokens<'a> {
     // Like [`next_first`](Tokens::next_first), but fails at the end of the text.
     #[inline(always)]
     pub(crate) fn expect_first(&mut self) -> Result<First<'a>, TextFault>
-        ensures read { (octets : List ℕ) (tokens : List Placed) → HasRead octets tokens self.old
+        ensures read { (octets : List ℕ) (tokens : List Located) → HasRead octets tokens self.old
             → IfOk result (λ first.
             HasRead octets (tokens ++ first_placed first ∷ []) self.new) }
         ensures valid { IfOk result IsValid }
         ensures shorter { OnOk result
             (length (ahead self.new.cursor) < length (ahead self.old.cursor)) }
-        ensures stands { (octets : List ℕ) (tokens : List Placed) (whole : Front)
+        ensures stands { (octets : List ℕ) (tokens : List Located) (whole : Front)
             → AreBefore tokens whole → HasRead octets tokens self.old → IsOpen whole
             → IfErr result (Stands octets) }
     {
@@ -107,11 +107,11 @@ impl<'a> Tokens<'a> {
     // Like [`expect`](Tokens::expect), but cheaper if the next token is `mark`.
     #[inline(always)]
     pub(crate) fn expect_mark(&mut self, mark: char) -> Result<Token, TextFault>
-        ensures read { (octets : List ℕ) (tokens : List Placed) → HasRead octets tokens self.old
-            → IfOk result (λ token. HasRead octets (tokens ++ placed token ∷ []) self.new) }
+        ensures read { (octets : List ℕ) (tokens : List Located) → HasRead octets tokens self.old
+            → IfOk result (λ token. HasRead octets (tokens ++ located token ∷ []) self.new) }
         ensures shorter { OnOk result
             (length (ahead self.new.cursor) < length (ahead self.old.cursor)) }
-        ensures stands { (octets : List ℕ) (tokens : List Placed) (whole : Front)
+        ensures stands { (octets : List ℕ) (tokens : List Located) (whole : Front)
             → AreBefore tokens whole → HasRead octets tokens self.old → IsOpen whole
             → IfErr result (Stands octets) }
     {
@@ -127,7 +127,7 @@ impl<'a> Tokens<'a> {
     // Returns `fault`, or the first fault of the remaining tokens if there is one, which takes
     // precedence.
     pub(crate) fn refuse(&self, fault: TextFault) -> TextFault
-        ensures { (octets : List ℕ) (tokens : List Placed) → HasRead octets tokens self.now
+        ensures { (octets : List ℕ) (tokens : List Located) → HasRead octets tokens self.now
             → StandsIfLexed octets fault → Stands octets result }
     {
         let mut cursor = self.cursor;

@@ -5,7 +5,7 @@ ghost use Rattle.plist_value.specs.declared.budget.Budget.{Budget as Left};
 ghost use Rattle.plist_value.specs.Plist.{Plist, AreUnits, IsPlist};
 ghost use Rattle.plist_value.specs.Limits.{Fits};
 ghost use Rattle.plist_value.specs.Budget.{Spends};
-ghost use Rattle.ostep_lex.specs.Lexeme.{Lexeme, Placed, placed, lexeme_of, text as string};
+ghost use Rattle.ostep_lex.specs.Lexeme.{Lexeme, Located, located, lexeme_of, text as string};
 ghost use Rattle.ostep_text.specs.Begun.{nothing, opened};
 ghost use Rattle.plist_draft.specs.Encoded.{SpellsIn};
 ghost use Rattle.plist_draft.specs.View.{objects};
@@ -50,10 +50,10 @@ impl<'a> Reader<'a> {
 
     // Reads a text that begins with this token, which is not a string.
     fn value_first(&mut self, first: Token) -> Result<u32, TextFault>
-        ensures read { (octets : List ℕ) → HasRead octets (placed first ∷ []) self.old.tokens
+        ensures read { (octets : List ℕ) → HasRead octets (located first ∷ []) self.old.tokens
             → IsLeft self.old.left MAX_DEPTH nothing
             → IfOk result (IsDrafted octets (objects self.new.draft)) }
-        ensures stands { (octets : List ℕ) → HasRead octets (placed first ∷ []) self.old.tokens
+        ensures stands { (octets : List ℕ) → HasRead octets (located first ∷ []) self.old.tokens
             → IsLeft self.old.left MAX_DEPTH nothing
             → at_front (lexeme_of first.kind) ≡ begun top (lexeme_of first.kind)
             → IfErr result (Stands octets) }
@@ -85,11 +85,11 @@ impl<'a> Reader<'a> {
 
     // Reads a text that begins with this string: the string alone, or a dictionary without braces.
     fn string_first(&mut self, key: Key<'a>, octet: usize) -> Result<u32, TextFault>
-        ensures read { (octets : List ℕ) (at : Placed) → at.lexeme ≡ string key.entry
+        ensures read { (octets : List ℕ) (at : Located) → at.lexeme ≡ string key.entry
             → at.start ≡ octet → HasRead octets (at ∷ []) self.old.tokens
             → IsLeft self.old.left MAX_DEPTH nothing
             → IfOk result (IsDrafted octets (objects self.new.draft)) }
-        ensures stands { (octets : List ℕ) (at : Placed) → at.lexeme ≡ string key.entry
+        ensures stands { (octets : List ℕ) (at : Located) → at.lexeme ≡ string key.entry
             → at.start ≡ octet → HasRead octets (at ∷ []) self.old.tokens
             → IsLeft self.old.left MAX_DEPTH nothing
             → IfErr result (Stands octets) }
@@ -124,7 +124,7 @@ impl<'a> Reader<'a> {
         ensures valid { OnOk result (AreUnits key.now) }
         ensures tokens { self.new.tokens ≡ self.old.tokens }
         ensures draft { self.new.draft ≡ self.old.draft }
-        ensures stands { (octets : List ℕ) (at after : Placed) → at.lexeme ≡ string key.now
+        ensures stands { (octets : List ℕ) (at after : Located) → at.lexeme ≡ string key.now
             → at.start ≡ octet → HasRead octets (at ∷ after ∷ []) self.old.tokens
             → IsLeft self.old.left MAX_DEPTH nothing
             → IfErr result (Stands octets) }

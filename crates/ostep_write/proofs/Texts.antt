@@ -2,7 +2,7 @@
 use Rattle.std.proofs.Common.{◌≡◌, ℕ, ◌+◌, ◌++◌, refl, sym, ap, ◌∙◌, append_assoc}
 use Rattle.std.specs.Prelude.{codes}
 use Rattle.plist_value.specs.Plist.{Plist, scalar, list, table, Items, no_items, item, Pairs, no_pairs, pair}
-use Rattle.plist_engine.specs.Notation.{text_in, items_in, pairs_in, whole_in}
+use Rattle.plist_write.specs.Notation.{text_in, items_in, pairs_in, document_in}
 use Rattle.ostep_text.specs.Written.{written, written_text, written_items, written_pairs}
 use Rattle.ostep_write.specs.Writing.{written_parts}
 
@@ -31,5 +31,5 @@ mutual
       let start = written_text key ++ codes " = " in
       ap (λ one. (start ++ (one ++ codes ";\n")) ++ pairs_in written_parts level ps) (text_is level v) ∙ ap (λ one. one ++ pairs_in written_parts level ps) (sym (append_assoc start (written v) (codes ";\n"))) ∙ ap (λ rest. (start ++ written v ++ codes ";\n") ++ rest) (pairs_are level ps)
 
-pub whole_is : (v : Plist) → whole_in written_parts v ≡ written v ++ codes "\n"
+pub whole_is : (v : Plist) → document_in written_parts v ≡ written v ++ codes "\n"
 whole_is v = ap (λ text. text ++ codes "\n") (text_is 0 v)

@@ -1,10 +1,10 @@
 -- OpenStep texts as a notation.
 use Rattle.std.specs.Prelude.{ℕ, List, [], ◌++◌, codes}
-use Rattle.plist_engine.specs.declared.notation.Mark.{Mark}
-use Rattle.plist_engine.specs.declared.notation.Mark.TheVariants.{EmptyList, ListStart, ListEnd}
-use Rattle.plist_engine.specs.declared.notation.Mark.TheVariants.{ItemEnd, EmptyTable, TableStart}
-use Rattle.plist_engine.specs.declared.notation.Mark.TheVariants.{TableEnd, PairEnd, TextEnd}
-use Rattle.plist_engine.specs.Notation.{Parts}
+use Rattle.plist_write.specs.declared.notation.Mark.{Mark}
+use Rattle.plist_write.specs.declared.notation.Mark.TheVariants.{EmptyList, ListStart, ListEnd}
+use Rattle.plist_write.specs.declared.notation.Mark.TheVariants.{ItemEnd, EmptyTable, TableStart}
+use Rattle.plist_write.specs.declared.notation.Mark.TheVariants.{TableEnd, PairEnd, TextEnd}
+use Rattle.plist_write.specs.Notation.{Parts}
 use Rattle.ostep_text.specs.Written.{written_scalar, written_text}
 
 abbrev pub written_mark : Mark → List ℕ

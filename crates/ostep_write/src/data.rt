@@ -1,11 +1,11 @@
 //! Writes data.
 ghost use Rattle.std.specs.Prelude.{flat_map};
 ghost use Rattle.plist_value.specs.Digits.{two_digits};
-ghost use Rattle.plist_engine.specs.Output.{Goes, state_of};
+ghost use Rattle.plist_write.specs.BufferedSink.{Emits, sink_state};
 ghost use Rattle.ostep_text.specs.Written.{written_data};
 
-use plist_engine::{Output, Sink, WriteFault};
 use plist_value::put_digits;
+use plist_write::{BufferedSink, Sink, WriteFault};
 
 // The maximum number of bytes whose digits are appended at once.
 const RUN: usize = 2048;
@@ -14,10 +14,13 @@ const RUN: usize = 2048;
 ///
 /// # Errors
 ///
-/// Fails like [`Output::put`].
-pub(crate) fn write_data<W: Sink>(octets: &[u8], out: &mut Output<W>) -> Result<(), WriteFault>
-    ensures goes { Goes (written_data octets.now)
-        (state_of W.Sink out.old) (state_of W.Sink out.new) result }
+/// Fails like [`BufferedSink::put`].
+pub(crate) fn write_data<W: Sink>(
+    octets: &[u8],
+    out: &mut BufferedSink<W>,
+) -> Result<(), WriteFault>
+    ensures emits { Emits (written_data octets.now)
+        (sink_state W.Sink out.old) (sink_state W.Sink out.new) result }
 {
     out.put(b"<")?;
     write_digits(octets, out)?;
@@ -25,16 +28,16 @@ pub(crate) fn write_data<W: Sink>(octets: &[u8], out: &mut Output<W>) -> Result<
 }
 
 // Writes two digits for each byte.
-fn write_digits<W: Sink>(octets: &[u8], out: &mut Output<W>) -> Result<(), WriteFault>
-    ensures goes { Goes (flat_map two_digits octets.now)
-        (state_of W.Sink out.old) (state_of W.Sink out.new) result }
+fn write_digits<W: Sink>(octets: &[u8], out: &mut BufferedSink<W>) -> Result<(), WriteFault>
+    ensures emits { Emits (flat_map two_digits octets.now)
+        (sink_state W.Sink out.old) (sink_state W.Sink out.new) result }
 {
     let mut left = octets;
     while !left.is_empty() {
         let (front, behind) = left.split_at(left.len().min(RUN));
         let put = put_digits(out.waiting, front);
         out.grown(put)?;
-        out.settle()?;
+        out.flush_if_full()?;
         left = behind;
     }
     Ok(())

@@ -3,12 +3,12 @@ ghost use Rattle.std.specs.Prelude.{◌≡◌, ◌<◌, ◌≤◌, ◌++◌, [],
 ghost use Rattle.std.specs.Prelude.{flat_map, IfOk};
 ghost use Rattle.std.specs.Bool.{OnTrue};
 ghost use Rattle.plist_value.specs.Texts.{units_of};
-ghost use Rattle.plist_engine.specs.Output.{Goes, Puts, state_of};
+ghost use Rattle.plist_write.specs.BufferedSink.{Emits, PutsPiece, sink_state};
 ghost use Rattle.ostep_text.specs.Written.{quoted_unit, written_text};
 
 use ostep_text::{is_plain, put_quoted_unit};
-use plist_engine::{Output, Sink, WriteFault};
 use plist_value::TextRef;
+use plist_write::{BufferedSink, Sink, WriteFault};
 use std::alloc::AllocError;
 
 // The maximum number of bytes that are appended at once.
@@ -18,10 +18,13 @@ const RUN: usize = 4096;
 ///
 /// # Errors
 ///
-/// Fails like [`Output::put`].
-pub(crate) fn write_string<W: Sink>(text: &TextRef, out: &mut Output<W>) -> Result<(), WriteFault>
-    ensures goes { Goes (written_text (units_of text.now))
-        (state_of W.Sink out.old) (state_of W.Sink out.new) result }
+/// Fails like [`BufferedSink::put`].
+pub(crate) fn write_string<W: Sink>(
+    text: &TextRef,
+    out: &mut BufferedSink<W>,
+) -> Result<(), WriteFault>
+    ensures emits { Emits (written_text (units_of text.now))
+        (sink_state W.Sink out.old) (sink_state W.Sink out.new) result }
 {
     if is_plain(text) {
         return write_units(text, out);
@@ -32,41 +35,41 @@ pub(crate) fn write_string<W: Sink>(text: &TextRef, out: &mut Output<W>) -> Resu
 }
 
 // Writes the units as they are between quotes.
-fn write_units<W: Sink>(text: &TextRef, out: &mut Output<W>) -> Result<(), WriteFault>
-    ensures goes { Goes (flat_map quoted_unit (units_of text.now))
-        (state_of W.Sink out.old) (state_of W.Sink out.new) result }
+fn write_units<W: Sink>(text: &TextRef, out: &mut BufferedSink<W>) -> Result<(), WriteFault>
+    ensures emits { Emits (flat_map quoted_unit (units_of text.now))
+        (sink_state W.Sink out.old) (sink_state W.Sink out.new) result }
 {
-    let mut place = 0;
-    while place < text.len() {
-        let put = put_some(out.waiting, text, place);
+    let mut index = 0;
+    while index < text.len() {
+        let put = put_some(out.waiting, text, index);
         let next = out.grown(put)?;
-        out.settle()?;
-        place = next;
+        out.flush_if_full()?;
+        index = next;
     }
     Ok(())
 }
 
-// Appends some of the units from position `place` on to `out`, and returns the position after them.
+// Appends some of the units from position `index` on to `out`, and returns the position after them.
 // These are units that need no escape if the string is stored as ASCII, and otherwise one unit.
-fn put_some(out: &mut Vec<u8>, text: &TextRef, place: usize) -> Result<usize, AllocError>
-    requires { place < length (units_of text.now) }
-    ensures octets { IfOk result (λ next. Puts out.old.items out.new.items
-        (flat_map quoted_unit (drop place (units_of text.now)))
+fn put_some(out: &mut Vec<u8>, text: &TextRef, index: usize) -> Result<usize, AllocError>
+    requires { index < length (units_of text.now) }
+    ensures octets { IfOk result (λ next. PutsPiece out.old.items out.new.items
+        (flat_map quoted_unit (drop index (units_of text.now)))
         (flat_map quoted_unit (drop next (units_of text.now)))) }
-    ensures further { IfOk result (λ next. place < next) }
+    ensures further { IfOk result (λ next. index < next) }
     ensures within { IfOk result (λ next. next ≤ length (units_of text.now)) }
 {
     if let Some(octets) = text.octets() {
-        let behind = &octets[place..];
+        let behind = &octets[index..];
         let run = stretch_length(behind);
         if run > 0 {
             out.extend_from_slice(&behind[..run])?;
-            return Ok(place + run);
+            return Ok(index + run);
         }
     }
-    prove!(place < text.len());
-    put_quoted_unit(out, text.unit(place))?;
-    Ok(place + 1)
+    prove!(index < text.len());
+    put_quoted_unit(out, text.unit(index))?;
+    Ok(index + 1)
 }
 
 // Returns the number of leading bytes that need no escape, at most `RUN`.

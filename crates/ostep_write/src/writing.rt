@@ -4,16 +4,16 @@ ghost use Rattle.plist_value.specs.Plist.{Plist};
 ghost use Rattle.plist_object.specs.KeyOrder.{IsReady};
 ghost use Rattle.plist_object.specs.Spelled.{IsBinary};
 ghost use Rattle.plist_object.specs.Views.{octets_of};
-ghost use Rattle.plist_engine.specs.Sending.{IsWritten};
+ghost use Rattle.plist_write.specs.Sending.{IsWritten};
 ghost use Rattle.plist_value.specs.Writable.{is_writable};
 ghost use Rattle.ostep_text.specs.Written.{written};
 ghost use Rattle.ostep_write.specs.Writing.{written_parts};
 
 use crate::data::write_data;
 use crate::strings::write_string;
-use plist_engine::{Mark, Notation, Output, Sink, WriteFault, write_in_notation};
 use plist_object::JudgedFile;
 use plist_value::{ScalarRef, TextRef};
+use plist_write::{BufferedSink, Mark, Notation, Sink, WriteFault, write_in_notation};
 use std::alloc::Global;
 
 /// Writes the OpenStep text of the file's value, object by object, and returns its length in bytes.
@@ -55,7 +55,7 @@ impl<W: Sink> Notation<W> for OpenStep {
     fn write_scalar(
         scalar: &ScalarRef,
         _level: u64,
-        out: &mut Output<W>,
+        out: &mut BufferedSink<W>,
     ) -> Result<(), WriteFault> {
         match scalar {
             ScalarRef::Text(text) => write_string(text, out),
@@ -64,16 +64,16 @@ impl<W: Sink> Notation<W> for OpenStep {
         }
     }
 
-    fn begin_line(_level: u64, _out: &mut Output<W>) -> Result<(), WriteFault> {
+    fn begin_line(_level: u64, _out: &mut BufferedSink<W>) -> Result<(), WriteFault> {
         Ok(())
     }
 
-    fn begin_pair(key: &TextRef, _level: u64, out: &mut Output<W>) -> Result<(), WriteFault> {
+    fn begin_pair(key: &TextRef, _level: u64, out: &mut BufferedSink<W>) -> Result<(), WriteFault> {
         write_string(key, out)?;
         out.put(b" = ")
     }
 
-    fn write_mark(mark: Mark, out: &mut Output<W>) -> Result<(), WriteFault> {
+    fn write_mark(mark: Mark, out: &mut BufferedSink<W>) -> Result<(), WriteFault> {
         match mark {
             Mark::EmptyList => out.put(b"(\n)"),
             Mark::ListStart => out.put(b"(\n"),

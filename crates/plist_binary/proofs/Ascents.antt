@@ -20,7 +20,7 @@ pub use Rattle.plist_object.proofs.Ascents.{AscendTo, ascend_next, ascend_more, 
 use Rattle.plist_value.specs.declared.value.Value.{Value}
 use Rattle.plist_value.specs.declared.value.Value.TheVariants.{Flag}
 use Rattle.plist_binary.specs.declared.dictionary.Key.{Key}
-use Rattle.plist_binary.specs.Keys.{units_at, place_of, pair_at}
+use Rattle.plist_binary.specs.Keys.{key_units, index_of, pair_at}
 
 pub zip-firsts : {A B : Type 0} (xs : List A) (ys : List B) → length xs ≡ length ys → map (λ (p : A × B). p.0) (zip xs ys) ≡ xs
 zip-firsts xs ys long = keys_of-zip xs ys (sym long)
@@ -41,43 +41,43 @@ behind [] k ys sorted = sorted_head (slice_cmp nat_cmp) k ys sorted
 behind (x ∷ xs) k ys sorted =
     behind xs k ys (sorted_tail (slice_cmp nat_cmp) x (xs ++ k ∷ ys) sorted)
 
-pub keys-pairs : (vs : List Value) (keys : List Key) → keys_of (map (pair_at vs) keys) ≡ map units_at keys
+pub keys-pairs : (vs : List Value) (keys : List Key) → keys_of (map (pair_at vs) keys) ≡ map key_units keys
 keys-pairs vs [] = refl
-keys-pairs vs (key ∷ keys) = ap (λ (l : List (List ℕ)). units_at key ∷ l) (keys-pairs vs keys)
+keys-pairs vs (key ∷ keys) = ap (λ (l : List (List ℕ)). key_units key ∷ l) (keys-pairs vs keys)
 
 -- writing a value at a place that no key has
-set_elsewhere : (vs : List Value) (place : ℕ) (v : Value) (keys : List Key) → AllByRecursion (λ q. (place == q) ≡ false) (map place_of keys) → map (pair_at (set vs place v)) keys ≡ map (pair_at vs) keys
-set_elsewhere vs place v [] apart = refl
-set_elsewhere vs place v (key ∷ keys) apart =
-    let other : key.place ≡ place → ⊥ = λ at. eqb-false place key.place apart.0 (sym at) in
-    let same : pair_at (set vs place v) key ≡ pair_at vs key = ap (λ (w : Value). (units_at key, w)) (get_or-set_other vs place key.place v (Flag false) other) in
-    ap (λ (p : List ℕ × Value). p ∷ map (pair_at (set vs place v)) keys) same ∙ ap (λ (l : List (List ℕ × Value)). pair_at vs key ∷ l) (set_elsewhere vs place v keys apart.1)
+set_elsewhere : (vs : List Value) (index : ℕ) (v : Value) (keys : List Key) → AllByRecursion (λ q. (index == q) ≡ false) (map index_of keys) → map (pair_at (set vs index v)) keys ≡ map (pair_at vs) keys
+set_elsewhere vs index v [] apart = refl
+set_elsewhere vs index v (key ∷ keys) apart =
+    let other : key.index ≡ index → ⊥ = λ at. eqb-false index key.index apart.0 (sym at) in
+    let same : pair_at (set vs index v) key ≡ pair_at vs key = ap (λ (w : Value). (key_units key, w)) (get_or-set_other vs index key.index v (Flag false) other) in
+    ap (λ (p : List ℕ × Value). p ∷ map (pair_at (set vs index v)) keys) same ∙ ap (λ (l : List (List ℕ × Value)). pair_at vs key ∷ l) (set_elsewhere vs index v keys apart.1)
 
-pub last_apart : (left : List Key) (key : Key) → IsDistinct (λ x y. x == y) (map place_of (left ++ key ∷ [])) → IsDistinct (λ x y. x == y) (map place_of (key ∷ left))
+pub last_apart : (left : List Key) (key : Key) → IsDistinct (λ x y. x == y) (map index_of (left ++ key ∷ [])) → IsDistinct (λ x y. x == y) (map index_of (key ∷ left))
 last_apart left key apart =
-    IsDistinct-IsPermutation (λ x y. x == y) nat_eq_equiv.symm (map place_of (left ++ key ∷ [])) (map place_of (key ∷ left)) (IsPermutation-map place_of (left ++ key ∷ []) (key ∷ left) (IsPermutation-to_front left key)) apart
+    IsDistinct-IsPermutation (λ x y. x == y) nat_eq_equiv.symm (map index_of (left ++ key ∷ [])) (map index_of (key ∷ left)) (IsPermutation-map index_of (left ++ key ∷ []) (key ∷ left) (IsPermutation-to_front left key)) apart
 
-pub left_apart : (left : List Key) (key : Key) → IsDistinct (λ x y. x == y) (map place_of (left ++ key ∷ [])) → IsDistinct (λ x y. x == y) (map place_of left)
+pub left_apart : (left : List Key) (key : Key) → IsDistinct (λ x y. x == y) (map index_of (left ++ key ∷ [])) → IsDistinct (λ x y. x == y) (map index_of left)
 left_apart left key apart =
-    IsDistinct-tail (λ x y. x == y) key.place (map place_of left) (last_apart left key apart)
+    IsDistinct-tail (λ x y. x == y) key.index (map index_of left) (last_apart left key apart)
 
-pub last_within : (left : List Key) (key : Key) (n : ℕ) → All (λ key. place_of key < n) (left ++ key ∷ []) → key.place < n
+pub last_within : (left : List Key) (key : Key) (n : ℕ) → All (λ key. index_of key < n) (left ++ key ∷ []) → key.index < n
 last_within left key n within =
-    All-permutation (λ key. place_of key < n) (left ++ key ∷ []) (key ∷ left) (IsPermutation-to_front left key) within zero key (omega arith)
+    All-permutation (λ key. index_of key < n) (left ++ key ∷ []) (key ∷ left) (IsPermutation-to_front left key) within zero key (omega arith)
 
-pub left_within : (left : List Key) (key : Key) (n : ℕ) → All (λ key. place_of key < n) (left ++ key ∷ []) → All (λ key. place_of key < n) left
+pub left_within : (left : List Key) (key : Key) (n : ℕ) → All (λ key. index_of key < n) (left ++ key ∷ []) → All (λ key. index_of key < n) left
 left_within left key n within =
-    All-tail (λ key. place_of key < n) key left (All-permutation (λ key. place_of key < n) (left ++ key ∷ []) (key ∷ left) (IsPermutation-to_front left key) within)
+    All-tail (λ key. index_of key < n) key left (All-permutation (λ key. index_of key < n) (left ++ key ∷ []) (key ∷ left) (IsPermutation-to_front left key) within)
 
 -- the pair of the last remaining key moves into the map
-pub moved_more : (keys left : List Key) (key : Key) (all vs : List Value) (v there taken : Value) (k : List ℕ) (es new : List (List ℕ × Value)) → IsStrictlySortedBy (slice_cmp nat_cmp) (map units_at keys) → IsDistinct (λ x y. x == y) (map place_of (left ++ key ∷ [])) → map (pair_at vs) (left ++ key ∷ []) ++ es ≡ map (pair_at all) keys → key.place < length vs → there ≡ get_or vs key.place there → taken ≡ there → k ≡ units_at key → new ≡ insert_entry (slice_cmp nat_cmp) es k taken → map (pair_at (set vs key.place v)) left ++ new ≡ map (pair_at all) keys
+pub moved_more : (keys left : List Key) (key : Key) (all vs : List Value) (v there taken : Value) (k : List ℕ) (es new : List (List ℕ × Value)) → IsStrictlySortedBy (slice_cmp nat_cmp) (map key_units keys) → IsDistinct (λ x y. x == y) (map index_of (left ++ key ∷ [])) → map (pair_at vs) (left ++ key ∷ []) ++ es ≡ map (pair_at all) keys → key.index < length vs → there ≡ get_or vs key.index there → taken ≡ there → k ≡ key_units key → new ≡ insert_entry (slice_cmp nat_cmp) es k taken → map (pair_at (set vs key.index v)) left ++ new ≡ map (pair_at all) keys
 moved_more keys left key all vs v there taken k es new ascend apart pairs within read took is put =
     let front = map (pair_at vs) left in
-    let value : taken ≡ (pair_at vs key).1 = took ∙ read ∙ get_or_default vs key.place there (Flag false) within in
+    let value : taken ≡ (pair_at vs key).1 = took ∙ read ∙ get_or_default vs key.index there (Flag false) within in
     let whole : front ++ (pair_at vs key ∷ es) ≡ map (pair_at all) keys = sym (append_assoc front (pair_at vs key ∷ []) es) ∙ sym (ap (λ (l : List (List ℕ × Value)). l ++ es) (map-append (pair_at vs) left (key ∷ []))) ∙ pairs in
     let first : List ℕ × Value → List ℕ = λ p. p.0 in
-    let names : keys_of front ++ units_at key ∷ keys_of es ≡ map units_at keys = sym (map-append first front (pair_at vs key ∷ es)) ∙ ap keys_of whole ∙ keys-pairs all keys in
-    let below = behind (keys_of front) (units_at key) (keys_of es) (subst (λ (l : List (List ℕ)). IsStrictlySortedBy (slice_cmp nat_cmp) l) (sym names) ascend) in
-    let inserted : new ≡ pair_at vs key ∷ es = put ∙ ap (λ (n : List ℕ). insert_entry (slice_cmp nat_cmp) es n taken) is ∙ ap (λ (w : Value). insert_entry (slice_cmp nat_cmp) es (units_at key) w) value ∙ insert_first (units_at key) (pair_at vs key).1 es below in
-    let kept = set_elsewhere vs key.place v left (IsDistinct-head (λ x y. x == y) key.place (map place_of left) (last_apart left key apart)) in
+    let names : keys_of front ++ key_units key ∷ keys_of es ≡ map key_units keys = sym (map-append first front (pair_at vs key ∷ es)) ∙ ap keys_of whole ∙ keys-pairs all keys in
+    let below = behind (keys_of front) (key_units key) (keys_of es) (subst (λ (l : List (List ℕ)). IsStrictlySortedBy (slice_cmp nat_cmp) l) (sym names) ascend) in
+    let inserted : new ≡ pair_at vs key ∷ es = put ∙ ap (λ (n : List ℕ). insert_entry (slice_cmp nat_cmp) es n taken) is ∙ ap (λ (w : Value). insert_entry (slice_cmp nat_cmp) es (key_units key) w) value ∙ insert_first (key_units key) (pair_at vs key).1 es below in
+    let kept = set_elsewhere vs key.index v left (IsDistinct-head (λ x y. x == y) key.index (map index_of left) (last_apart left key apart)) in
     ap (λ (l : List (List ℕ × Value)). l ++ new) kept ∙ ap (λ (l : List (List ℕ × Value)). front ++ l) inserted ∙ whole

@@ -9,7 +9,7 @@ use Rattle.plist_value.specs.Limits.{nodes_of_items, depth_of_items, payload_of_
 use Rattle.plist_value.specs.declared.TheConstants.{MAX_DEPTH}
 use Rattle.plist_value.specs.Budget.{Spends}
 use Rattle.plist_value.specs.declared.budget.Budget.{Budget}
-use Rattle.plist_object.specs.Objects.{Held, holds_list, holds_table}
+use Rattle.plist_object.specs.Objects.{Content, holds_list, holds_table}
 use Rattle.plist_object.specs.Places.{Holds}
 use Rattle.plist_object.specs.References.{references_of}
 use Rattle.plist_object.specs.Spelled.{SpellItems}
@@ -51,7 +51,7 @@ pub IsEntered-leads : (f before : List ℕ) (j : ℕ) (left : Budget) → IsEnte
 IsEntered-leads f before j left entered = Begins-leads f before j entered.nodes entered.payload entered.begins
 
 -- the references of a container that was entered, after those that were followed
-AreNext-part : (f before : List ℕ) (j : ℕ) (held : Held) (front refs behind : List ℕ) (left after : Budget) (vs : Items) → IsEntered f before j left → Holds f j held → references_of held ≡ front ++ (refs ++ behind) → SpellItems f front vs → AreItems vs → length before + 1 + depth_of_items vs ≤ MAX_DEPTH → Spends left (nodes_of_items vs) (payload_of_items vs) after → AreNext f before j refs after
+AreNext-part : (f before : List ℕ) (j : ℕ) (held : Content) (front refs behind : List ℕ) (left after : Budget) (vs : Items) → IsEntered f before j left → Holds f j held → references_of held ≡ front ++ (refs ++ behind) → SpellItems f front vs → AreItems vs → length before + 1 + depth_of_items vs ≤ MAX_DEPTH → Spends left (nodes_of_items vs) (payload_of_items vs) after → AreNext f before j refs after
 AreNext-part f before j held front refs behind left after vs entered holds all spell valid deep spent = record {
   nodes = entered.nodes;
   payload = entered.payload;

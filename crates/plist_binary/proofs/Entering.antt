@@ -8,7 +8,7 @@ use Rattle.plist_value.specs.Plist.{text, Plist, scalar, list, table, Items, no_
 use Rattle.plist_object.specs.declared.object.ObjectFault.{ObjectFault}
 use Rattle.plist_object.specs.declared.object.ObjectFault.TheVariants.{NotAscii}
 use Rattle.plist_object.specs.Layout.{trailer_of, IsLaid}
-use Rattle.plist_object.specs.Objects.{Held, holds_scalar, holds_list, holds_table, ◌>>=◌, cut, content, integer_length, whole_in, simple_object, whole_object, real_object, moment_object, data_object, ascii_object, wide_object, list_object, table_object, marked_object, object_in}
+use Rattle.plist_object.specs.Objects.{Content, holds_scalar, holds_list, holds_table, ◌>>=◌, cut, content, integer_length, whole_in, simple_object, whole_object, real_object, moment_object, data_object, ascii_object, wide_object, list_object, table_object, marked_object, object_in}
 use Rattle.plist_object.specs.Places.{Holds, object_at, octets_at, what_holds}
 use Rattle.plist_object.proofs.Listed.{length-numbers}
 use Rattle.plist_value.specs.Limits.{nodes, nodes_of_items, nodes_of_pairs}
@@ -29,20 +29,20 @@ use Rattle.plist_binary.specs.Readings.{Refuses}
 use Rattle.plist_binary.proofs.ItemSteps.{Spells-held}
 use Rattle.plist_value.proofs.Items.{some_depth}
 
-abbrev IsPaired : Held → Type 0
+abbrev IsPaired : Content → Type 0
 IsPaired (holds_scalar s) = ⊤
 IsPaired (holds_list refs) = ⊤
 IsPaired (holds_table keys values) = length keys ≡ length values
 
-abbrev ReadsPaired : Result (Held × List ℕ) ObjectFault → Type 0
+abbrev ReadsPaired : Result (Content × List ℕ) ObjectFault → Type 0
 ReadsPaired (Ok r) = IsPaired r.0
 ReadsPaired (Err e) = ⊤
 
-by_test : (b : Bool) (x y : Result (Held × List ℕ) ObjectFault) → ReadsPaired x → ReadsPaired y → ReadsPaired (if b then x else y)
+by_test : (b : Bool) (x y : Result (Content × List ℕ) ObjectFault) → ReadsPaired x → ReadsPaired y → ReadsPaired (if b then x else y)
 by_test true x y px py = px
 by_test false x y px py = py
 
-by_steps : {A : Type 0} (m : Result A ObjectFault) (next : A → Result (Held × List ℕ) ObjectFault) → ((a : A) → ReadsPaired (next a)) → ReadsPaired (m >>= next)
+by_steps : {A : Type 0} (m : Result A ObjectFault) (next : A → Result (Content × List ℕ) ObjectFault) → ((a : A) → ReadsPaired (next a)) → ReadsPaired (m >>= next)
 by_steps (Ok a) next paired = paired a
 by_steps (Err e) next paired = tt
 
@@ -109,11 +109,11 @@ placed : (f : List ℕ) (i : ℕ) → ReadsPaired (object_at f i)
 unfolding object_at
 placed f i = by_steps (octets_at f i) _ (begun (trailer_of f).reference_width)
 
-abbrev HoldsPaired : Result Held ObjectFault → Type 0
+abbrev HoldsPaired : Result Content ObjectFault → Type 0
 HoldsPaired (Ok held) = IsPaired held
 HoldsPaired (Err e) = ⊤
 
-without_rest : (read : Result (Held × List ℕ) ObjectFault) → ReadsPaired read → HoldsPaired (read >>= λ r. Ok r.0)
+without_rest : (read : Result (Content × List ℕ) ObjectFault) → ReadsPaired read → HoldsPaired (read >>= λ r. Ok r.0)
 without_rest (Ok r) paired = paired
 without_rest (Err e) paired = tt
 
@@ -194,10 +194,10 @@ in_row (i ∷ keys) (j ∷ values) (suc k) d e long within = inr (in_row keys va
 pub descends : (f : List ℕ) (j i : ℕ) (v : Plist) → IsPlist v → Spells f j v → Refers f j i → (most : ℕ) → nodes v ≤ suc most → SpellsBelow f i most
 descends f j i (scalar s) valid spells refers most few =
     let held = same_held f j refers.held (holds_scalar s) refers.holds spells in
-    absurd (Among-contains i [] (subst (λ (h : Held). Contains (references_of h) i) held refers.among))
+    absurd (Among-contains i [] (subst (λ (h : Content). Contains (references_of h) i) held refers.among))
 descends f j i (list vs) valid spells refers most few =
     let held = same_held f j refers.held (holds_list spells.0) refers.holds spells.1.0 in
-    let among = Among-contains i spells.0 (subst (λ (h : Held). Contains (references_of h) i) held refers.among) in
+    let among = Among-contains i spells.0 (subst (λ (h : Content). Contains (references_of h) i) held refers.among) in
     wider f i (nodes_of_items vs) most (omega arith) (among_items f i spells.0 vs valid spells.1.1 among)
 descends f j i (table ps) valid spells refers most few =
     let keys = spells.0 in
@@ -208,7 +208,7 @@ descends f j i (table ps) valid spells refers most few =
     let spell = spells.1.1.1.1.1 in
     let long = length-values f j keys values holds in
     let held = same_held f j refers.held (holds_table keys values) refers.holds holds in
-    let among = subst (λ (h : Held). Contains (references_of h) i) held refers.among in
+    let among = subst (λ (h : Content). Contains (references_of h) i) held refers.among in
     let row : ℕ → ℕ × ℕ = λ k. (get_or keys k i, get_or values k i) in
     let spelled : (k : ℕ) → k < length keys → SpellsBelow f (row k).0 (nodes_of_pairs ps) × SpellsBelow f (row k).1 (nodes_of_pairs ps) = λ k within. (
     let there = Among-permutation (row k) (zip keys values) rows moved (in_row keys values k i i long within) in

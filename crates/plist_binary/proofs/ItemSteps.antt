@@ -1,7 +1,7 @@
 -- The items and keys that references point to, and the first of them that is refused.
 use Rattle.std.proofs.Common.{ℕ, List, ◌≡◌, ◌+◌, ◌≤◌, [], ◌∷◌, ◌++◌, refl, arith, ◌<◌, subst, ◌*◌, length, Ok, sym, ap, suc, take, drop, drop-cons, slice_index, ◌∙◌}
 use Rattle.plist_value.specs.Plist.{Plist, scalar, list, table, Items, no_items, item, AreItems, IsPlist, text}
-use Rattle.plist_object.specs.Objects.{Held, holds_scalar, holds_list, holds_table}
+use Rattle.plist_object.specs.Objects.{Content, holds_scalar, holds_list, holds_table}
 use Rattle.plist_object.specs.Places.{Holds, what_holds}
 use Rattle.plist_object.specs.Spelled.{Spells, SpellItems}
 use Rattle.plist_value.specs.Limits.{nodes_of_items, depth_of_items, payload_of_items, nodes, depth, payload}
@@ -20,7 +20,7 @@ use Rattle.std.specs.List.{Contains}
 use Rattle.std.proofs.lemmas.List.Elements.{Contains-append_left}
 
 -- an object that encodes a value can be decoded
-pub Spells-held : (f : List ℕ) (i : ℕ) (v : Plist) → Spells f i v → (held : Held) × Holds f i held
+pub Spells-held : (f : List ℕ) (i : ℕ) (v : Plist) → Spells f i v → (held : Content) × Holds f i held
 Spells-held f i (scalar s) spells = (holds_scalar s, spells)
 Spells-held f i (list vs) spells = (holds_list spells.0, spells.1.0)
 Spells-held f i (table ps) spells = (holds_table spells.0 spells.1.0, spells.1.1.1.0)
@@ -195,7 +195,7 @@ RefusesKey-value f i levels left fault refused = record {
   none = λ unless units valid spells deep affords. refused.none unless (scalar (text units)) valid spells deep affords;
 }
 
-pub RefusesKey-other : (f before : List ℕ) (table i levels : ℕ) (left : Budget) (held : Held) → IsLaid f → Leads f before table → IsKeyOf f table i → i < (trailer_of f).count → what_holds f i ≡ Ok held → (¬ IsText held) → RefusesKey f i levels left (KeyNotText table)
+pub RefusesKey-other : (f before : List ℕ) (table i levels : ℕ) (left : Budget) (held : Content) → IsLaid f → Leads f before table → IsKeyOf f table i → i < (trailer_of f).count → what_holds f i ≡ Ok held → (¬ IsText held) → RefusesKey f i levels left (KeyNotText table)
 RefusesKey-other f before owner i levels left held laid leads key listed reads no_text = record {
   stands = record {
     ends = record { laid = laid; before = before; leads = leads };

@@ -19,9 +19,9 @@ use Rattle.std.specs.Prelude.{◌≢◌}
 use Rattle.std.proofs.Math.Dec.{eqb}
 use Rattle.std.proofs.lemmas.Bool.Decides.{eqb_tells}
 use Rattle.plist_object.proofs.Ascending.{Among, Contains-among, Among-contains}
-use Rattle.plist_binary.specs.declared.memos.State.{State}
-use Rattle.plist_binary.specs.declared.memos.State.TheVariants.{Unseen, Open}
-use Rattle.plist_binary.specs.Memos.{IsState, state_of, AreStates, AreStatesBut, IsMarked}
+use Rattle.plist_binary.specs.declared.states.ObjectState.{ObjectState}
+use Rattle.plist_binary.specs.declared.states.ObjectState.TheVariants.{Unseen, Open}
+use Rattle.plist_binary.specs.States.{IsState, state_at_object, AreStates, AreStatesBut, IsRecorded}
 use Rattle.plist_value.specs.declared.TheConstants.{MAX_DEPTH}
 use Rattle.plist_binary.specs.Passing.{IsWithinLimits}
 use Rattle.plist_binary.specs.Progress.{IsProgress, IsProgressBut}
@@ -124,7 +124,7 @@ Refuses-table f keys values i levels below before left fault levels_is listed re
 -- What is known of the objects of a file, after one of them is marked.
 
 -- a longer path
-wider : (f path : List ℕ) (j i : ℕ) (state : State) → IsState f path i state → IsState f (j ∷ path) i state
+wider : (f path : List ℕ) (j i : ℕ) (state : ObjectState) → IsState f path i state → IsState f (j ∷ path) i state
 wider f path j i Unseen is = tt
 wider f path j i Open is = Contains-among i (j ∷ path) (inr (Among-contains i path is))
 wider f path j i _ is = is
@@ -138,34 +138,34 @@ earlier i j path apart among =
     (Among-contains i (j ∷ path) among)
 
 -- a path without its last container, for another object
-narrower : (f path : List ℕ) (j i : ℕ) (state : State) → i ≢ j → IsState f (j ∷ path) i state → IsState f path i state
+narrower : (f path : List ℕ) (j i : ℕ) (state : ObjectState) → i ≢ j → IsState f (j ∷ path) i state → IsState f path i state
 narrower f path j i Unseen apart is = tt
 narrower f path j i Open apart is = earlier i j path apart is
 narrower f path j i _ apart is = is
 
 -- the object itself, or another one
-pub marked : (P : ℕ → State → Type 0) (before after : List State) (j : ℕ) (state : State) (i : ℕ) → IsMarked before j state after → P j state → (i ≢ j → P i (state_of before i)) → P i (state_of after i)
+pub marked : (P : ℕ → ObjectState → Type 0) (before after : List ObjectState) (j : ℕ) (state : ObjectState) (i : ℕ) → IsRecorded before j state after → P j state → (i ≢ j → P i (state_at_object before i)) → P i (state_at_object after i)
 marked P before after j state i mark here there =
     ⊎_elim
     (λ (same : (eqb i j ≡ true) × (i ≡ j)).
-    subst (λ (n : ℕ). P n (state_of after n)) (sym same.1) (subst (P j) (sym mark.here) here))
+    subst (λ (n : ℕ). P n (state_at_object after n)) (sym same.1) (subst (P j) (sym mark.here) here))
     (λ (apart : (eqb i j ≡ false) × (i ≢ j)).
     subst (P i) (sym (mark.elsewhere i apart.1)) (there apart.1))
     (eqb_tells i j)
 
 -- the container is opened
-pub AreStates-open : (f path : List ℕ) (before after : List State) (j : ℕ) → IsMarked before j Open after → AreStates f path before → AreStates f (j ∷ path) after
+pub AreStates-open : (f path : List ℕ) (before after : List ObjectState) (j : ℕ) → IsRecorded before j Open after → AreStates f path before → AreStates f (j ∷ path) after
 AreStates-open f path before after j mark are = record {
-  each = λ i. marked (IsState f (j ∷ path)) before after j Open i mark (Contains-among j (j ∷ path) (inl refl)) (λ _. wider f path j i (state_of before i) (are.each i));
+  each = λ i. marked (IsState f (j ∷ path)) before after j Open i mark (Contains-among j (j ∷ path) (inl refl)) (λ _. wider f path j i (state_at_object before i) (are.each i));
   opened = λ i among. ⊎_elim
-      (λ (same : (eqb i j ≡ true) × (i ≡ j)). subst (λ (n : ℕ). state_of after n ≡ Open) (sym same.1) mark.here)
+      (λ (same : (eqb i j ≡ true) × (i ≡ j)). subst (λ (n : ℕ). state_at_object after n ≡ Open) (sym same.1) mark.here)
       (λ (apart : (eqb i j ≡ false) × (i ≢ j)).
       mark.elsewhere i apart.1 ∙ are.opened i (earlier i j path apart.1 among))
       (eqb_tells i j);
 }
 
 -- the object was visited, and is not on the path
-pub AreStates-visited : (f path : List ℕ) (before after : List State) (j : ℕ) (state : State) → IsMarked before j state after → IsState f path j state → ¬ Contains path j → AreStatesBut f path j before → AreStates f path after
+pub AreStates-visited : (f path : List ℕ) (before after : List ObjectState) (j : ℕ) (state : ObjectState) → IsRecorded before j state after → IsState f path j state → ¬ Contains path j → AreStatesBut f path j before → AreStates f path after
 AreStates-visited f path before after j state mark is new are = record {
   each = λ i. marked (IsState f path) before after j state i mark is (are.each i);
   opened = λ i among.
@@ -174,14 +174,14 @@ AreStates-visited f path before after j state mark is new are = record {
 }
 
 -- what is known of all objects is known of all but one
-pub AreStates-but : (f path : List ℕ) (states : List State) (j : ℕ) → AreStates f path states → AreStatesBut f path j states
+pub AreStates-but : (f path : List ℕ) (states : List ObjectState) (j : ℕ) → AreStates f path states → AreStatesBut f path j states
 AreStates-but f path states j are = record { each = λ i _. are.each i; opened = λ i _ among. are.opened i among }
 
 -- after the content of the last container, whose own state is not known yet
 pub IsProgress-last : (f path : List ℕ) (j : ℕ) (progress : Progress) → IsProgress f (j ∷ path) progress → IsProgressBut f path j progress
 IsProgress-last f path j progress so_far = record {
   states = record {
-    each = λ i apart. narrower f path j i (state_of progress.states.items i) apart (so_far.states.each i);
+    each = λ i apart. narrower f path j i (state_at_object progress.states.items i) apart (so_far.states.each i);
     opened = λ i apart among. so_far.states.opened i (Contains-among i (j ∷ path) (inr (Among-contains i path among)));
   };
   texts = so_far.texts;
@@ -198,6 +198,6 @@ IsWithinLimits-spent within spent = record {
 }
 
 -- an open object is on the path
-pub Open-among : (f path : List ℕ) (states : List State) (i : ℕ) → AreStates f path states → state_of states i ≡ Open → Among i path
+pub Open-among : (f path : List ℕ) (states : List ObjectState) (i : ℕ) → AreStates f path states → state_at_object states i ≡ Open → Among i path
 Open-among f path states i are is =
     Among-contains i path (subst (IsState f path i) is (are.each i))

@@ -16,8 +16,8 @@ use Rattle.plist_value.specs.Writable.{is_writable, is_writable_scalar}
 use Rattle.plist_object.specs.Layout.{trailer_of}
 use Rattle.plist_object.specs.Objects.{holds_scalar, holds_list, holds_table}
 use Rattle.plist_object.specs.Places.{what_holds}
-use Rattle.plist_binary.specs.declared.memos.Memo.{Memo}
-use Rattle.plist_binary.specs.Memos.{HasText, IsKey, IsMemo}
+use Rattle.plist_binary.specs.declared.states.ValueSize.{ValueSize}
+use Rattle.plist_binary.specs.States.{HasText, IsKey, IsValueSize}
 use Rattle.plist_binary.specs.Passing.{Passes, PassesItems, PassesPairs}
 use Rattle.plist_binary.specs.Readings.{Reads, ReadsItems, ReadsKey, texts}
 use Rattle.plist_binary.proofs.Ascents.{zip-firsts}
@@ -29,8 +29,8 @@ use Rattle.plist_value.proofs.Items.{items_of-push, depth-push}
 use Rattle.plist_binary.proofs.TableSteps.{ReadsPairs-sorted, pairs_sorted, depth-texts, length-texts, length-items}
 
 -- a value that is known and fits
-pub Passes-memo : (f : List ℕ) (i levels : ℕ) (before after : Budget) (memo : Memo) (all : Bool) → IsMemo f i memo → memo.depth ≤ levels → Spends before memo.nodes memo.payload after → (all ≡ true → HasText f i) → Passes f i levels before memo.depth after all all
-Passes-memo f i levels before after memo all is fits spent has =
+pub Passes-size : (f : List ℕ) (i levels : ℕ) (before after : Budget) (size : ValueSize) (all : Bool) → IsValueSize f i size → size.depth ≤ levels → Spends before size.nodes size.payload after → (all ≡ true → HasText f i) → Passes f i levels before size.depth after all all
+Passes-size f i levels before after size all is fits spent has =
     record {
       value = is.value;
       reads = record {
@@ -49,8 +49,8 @@ pub Passes-from : {f : List ℕ} {i levels : ℕ} {before : Budget} {deep : ℕ}
 Passes-from is passed = rw is at passed
 
 -- what was passed is known afterwards
-pub IsMemo-passed : {first all : Bool} (f : List ℕ) (i levels : ℕ) (before after : Budget) (deep : ℕ) (memo : Memo) → Passes f i levels before deep after first all → after.nodes + memo.nodes ≡ before.nodes → after.payload + memo.payload ≡ before.payload → memo.depth ≡ deep → IsMemo f i memo
-IsMemo-passed f i levels before after deep memo passed nodes_gone payload_gone depth_is = record {
+pub IsValueSize-passed : {first all : Bool} (f : List ℕ) (i levels : ℕ) (before after : Budget) (deep : ℕ) (size : ValueSize) → Passes f i levels before deep after first all → after.nodes + size.nodes ≡ before.nodes → after.payload + size.payload ≡ before.payload → size.depth ≡ deep → IsValueSize f i size
+IsValueSize-passed f i levels before after deep size passed nodes_gone payload_gone depth_is = record {
   value = passed.value;
   spells = passed.reads.spells;
   valid = passed.reads.valid;
@@ -126,8 +126,8 @@ IsKey-read f i levels before after units size reads gone = record {
   payload_is = omega (arith, gone, reads.spent.payload_left);
 }
 
-pub IsMemo-key : (f : List ℕ) (i size : ℕ) → IsKey f i size → IsMemo f i record { depth = 1; nodes = 1; payload = size }
-IsMemo-key f i size key = record {
+pub IsValueSize-key : (f : List ℕ) (i size : ℕ) → IsKey f i size → IsValueSize f i record { depth = 1; nodes = 1; payload = size }
+IsValueSize-key f i size key = record {
   value = scalar (text key.units);
   spells = key.spells;
   valid = key.valid;

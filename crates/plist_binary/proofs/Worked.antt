@@ -6,7 +6,7 @@ use Rattle.std.specs.List.Sorted.{IsPermutation}
 use Rattle.plist_value.specs.Plist.{text, flag, scalar, list, no_items, item, no_pairs, pair, AllUnder}
 use Rattle.plist_value.specs.Rows.{a, b, swapped}
 use Rattle.plist_object.specs.Layout.{header, Trailer, trailer_of, IsTrailer, IsLaid}
-use Rattle.plist_object.specs.Objects.{Held, holds_scalar, holds_list, holds_table, marked_object, content, count_of_content, simple_object, ascii_object, list_object, table_object}
+use Rattle.plist_object.specs.Objects.{Content, holds_scalar, holds_list, holds_table, marked_object, content, count_of_content, simple_object, ascii_object, list_object, table_object}
 use Rattle.plist_object.specs.Places.{Holds, what_holds, object_at, octets_at}
 use Rattle.plist_object.specs.References.{references_of}
 use Rattle.plist_object.specs.Spelled.{SpellPairs, IsBinary}
@@ -256,11 +256,11 @@ shared-refers : (i j : ℕ) → Refers shared i j → (i ≡ 0) × (j ≡ 1)
 unfolding shared end_of
 shared-refers zero j refers =
     let held = same_held shared 0 refers.held (holds_list (1 ∷ 1 ∷ [])) refers.holds shared-first in
-    let among = Among-contains j (1 ∷ 1 ∷ []) (subst (λ (h : Held). Contains (references_of h) j) held refers.among) in
+    let among = Among-contains j (1 ∷ 1 ∷ []) (subst (λ (h : Content). Contains (references_of h) j) held refers.among) in
     (refl, ⊎_elim (λ e. e) (⊎_elim (λ e. e) absurd) among)
 shared-refers (suc zero) j refers =
     let held = same_held shared 1 refers.held (holds_list []) refers.holds shared-second in
-    absurd (Among-contains j [] (subst (λ (h : Held). Contains (references_of h) j) held refers.among))
+    absurd (Among-contains j [] (subst (λ (h : Content). Contains (references_of h) j) held refers.among))
 shared-refers (suc (suc i)) j refers =
     let listed : suc (suc i) < 2 = refers.holds.listed in
     absurd (omega arith)

@@ -11,8 +11,8 @@ use Rattle.plist_value.specs.Writable.{is_writable, are_writable_items, are_writ
 use Rattle.plist_value.proofs.Items.{push, items_of-push}
 use Rattle.plist_object.specs.Spelled.{Spells}
 use Rattle.plist_object.proofs.Uniqueness.{same_value}
-use Rattle.plist_binary.specs.declared.memos.State.{State}
-use Rattle.plist_binary.specs.Memos.{HasText, HaveTexts, IsMarked, IsVisited}
+use Rattle.plist_binary.specs.declared.states.ObjectState.{ObjectState}
+use Rattle.plist_binary.specs.States.{HasText, HaveTexts, IsRecorded, IsVisited}
 use Rattle.plist_binary.proofs.Making.{marked}
 
 and_true : (b : Bool) → (b && true) ≡ b
@@ -62,11 +62,11 @@ kept true b is = sym (is refl)
 kept false b is = refl
 
 -- one more object was visited, and its value is writable if so said
-pub HaveTexts-marked : (f : List ℕ) (before after : List State) (j : ℕ) (state : State) (writable : Bool) → IsMarked before j state after → (writable ≡ true → IsVisited state → HasText f j) → HaveTexts f before writable → HaveTexts f after writable
+pub HaveTexts-marked : (f : List ℕ) (before after : List ObjectState) (j : ℕ) (state : ObjectState) (writable : Bool) → IsRecorded before j state after → (writable ≡ true → IsVisited state → HasText f j) → HaveTexts f before writable → HaveTexts f after writable
 HaveTexts-marked f before after j state writable mark here texts = λ is i.
     marked (λ k s. IsVisited s → HasText f k) before after j state i mark (here is) (λ _. texts is i)
 
 -- what was visited before is writable if all is
-pub HaveTexts-all : (f : List ℕ) (states : List State) (first rest : Bool) → HaveTexts f states first → HaveTexts f states (first && rest)
+pub HaveTexts-all : (f : List ℕ) (states : List ObjectState) (first rest : Bool) → HaveTexts f states first → HaveTexts f states (first && rest)
 HaveTexts-all f states true rest texts = λ _. texts refl
 HaveTexts-all f states false rest texts = λ is. absurd (cc)

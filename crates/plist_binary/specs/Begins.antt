@@ -10,14 +10,14 @@ use Rattle.plist_value.specs.declared.TheConstants.{MAX_DEPTH}
 use Rattle.plist_value.specs.declared.budget.Budget.{Budget}
 use Rattle.plist_object.specs.declared.object.ObjectFault.{ObjectFault}
 use Rattle.plist_object.specs.Layout.{trailer_of}
-use Rattle.plist_object.specs.Objects.{Held, holds_scalar, holds_list, holds_table}
+use Rattle.plist_object.specs.Objects.{Content, holds_scalar, holds_list, holds_table}
 use Rattle.plist_object.specs.Places.{Holds}
 use Rattle.plist_object.specs.Spelled.{SpellItems}
 use Rattle.plist_object.specs.References.{references_of}
 use Rattle.plist_binary.specs.Budgets.{limits}
 
 -- the payload of the string or data that was decoded
-abbrev pub payload_read : Result Held ObjectFault → ℕ
+abbrev pub payload_read : Result Content ObjectFault → ℕ
 payload_read (Ok (holds_scalar s)) = payload_of_scalar s
 payload_read (Ok (holds_list refs)) = 0
 payload_read (Ok (holds_table keys values)) = 0
@@ -25,7 +25,7 @@ payload_read (Err e) = 0
 
 -- object j refers to i, after references to these values
 pub record Comes (f : List ℕ) (j i : ℕ) (vs : Items) : Type 0 where
-  pub held : Held
+  pub held : Content
   pub holds : Holds f j held
   pub front : List ℕ
   pub behind : List ℕ
@@ -77,7 +77,7 @@ pub record AreNext (f before : List ℕ) (j : ℕ) (refs : List ℕ) (left : Bud
   pub payload : ℕ
   pub begins : Begins f before j nodes payload
   pub new : ¬ Contains before j
-  pub held : Held
+  pub held : Content
   pub holds : Holds f j held
   pub front : List ℕ
   pub behind : List ℕ

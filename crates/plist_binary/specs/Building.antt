@@ -4,14 +4,14 @@ use Rattle.std.specs.List.{Contains, zip}
 use Rattle.std.specs.List.Sorted.{IsPermutation}
 use Rattle.plist_value.specs.Plist.{text, Plist, Items, Pairs, IsPlist, AreItems, ArePairs}
 use Rattle.plist_value.specs.Limits.{depth_of_pairs}
-use Rattle.plist_object.specs.Objects.{Held, holds_scalar}
+use Rattle.plist_object.specs.Objects.{Content, holds_scalar}
 use Rattle.plist_object.specs.Places.{Holds}
 use Rattle.plist_object.specs.Spelled.{Spells, SpellItems, SpellPairs, SpellsWithin}
 use Rattle.plist_binary.specs.Readings.{texts}
 
 -- the object can be decoded
 abbrev pub HoldsSome : List ℕ → ℕ → Type 0
-HoldsSome f i = (held : Held) × Holds f i held
+HoldsSome f i = (held : Content) × Holds f i held
 
 -- the object is a string with these units
 abbrev pub SpellsUnits : List ℕ → ℕ → List ℕ → Type 0

@@ -61,5 +61,5 @@ fault_report OutOfMemory = reports refusal.OutOfMemory place.Nowhere
 abbrev pub fault_code : BinaryFault → ℕ
 fault_code fault = number_of (fault_report fault).0
 
-abbrev pub fault_text : BinaryFault → List ℕ
-fault_text fault = report_text (fault_report fault)
+abbrev pub binary_fault_text : BinaryFault → List ℕ
+binary_fault_text fault = report_text (fault_report fault)

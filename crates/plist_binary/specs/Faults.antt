@@ -7,7 +7,7 @@ use Rattle.plist_object.specs.declared.layout.LayoutFault.TheVariants as layout
 use Rattle.plist_object.specs.declared.object.ObjectFault.{ObjectFault}
 use Rattle.plist_object.specs.declared.object.ObjectFault.TheVariants as object
 use Rattle.plist_object.specs.Layout.{trailer_of, IsLaid, IsLayoutFault}
-use Rattle.plist_object.specs.Objects.{Held, holds_scalar, holds_list, holds_table}
+use Rattle.plist_object.specs.Objects.{Content, holds_scalar, holds_list, holds_table}
 use Rattle.plist_object.specs.Places.{Holds, what_holds}
 use Rattle.plist_binary.specs.declared.fault.BinaryFault.{BinaryFault}
 use Rattle.plist_binary.specs.declared.fault.BinaryFault.TheVariants.{TooShort, BadHeader}
@@ -36,7 +36,7 @@ pub record RefersNowhere (f : List ℕ) (i : ℕ) : Type 0 where
   pub above : (trailer_of f).count ≤ reference
 
 -- the content is a string
-abbrev pub IsText : Held → Type 0
+abbrev pub IsText : Content → Type 0
 IsText (holds_scalar (text units)) = ⊤
 IsText (holds_scalar (whole z)) = ⊥
 IsText (holds_scalar (flag b)) = ⊥
@@ -55,7 +55,7 @@ pub record HasOtherKey (f : List ℕ) (i : ℕ) : Type 0 where
   pub holds : Holds f i (holds_table keys values)
   pub key : ℕ
   pub among : Contains keys key
-  pub held : Held
+  pub held : Content
   pub reads : Holds f key held
   pub no_text : ¬ IsText held
 

@@ -9,7 +9,7 @@ pub mod Faults
 pub mod Budgets
 pub mod Keys
 pub mod Readings
-pub mod Memos
+pub mod States
 pub mod Passing
 pub mod Recalls
 pub mod Walkers

@@ -2,14 +2,14 @@
 use Rattle.std.specs.Prelude.{◌≡◌, ℕ, List, [], ◌∷◌}
 use Rattle.std.specs.List.{Contains}
 use Rattle.plist_object.specs.Layout.{trailer_of, IsLaid}
-use Rattle.plist_object.specs.Objects.{Held, holds_table}
+use Rattle.plist_object.specs.Objects.{Content, holds_table}
 use Rattle.plist_object.specs.Places.{Holds}
 use Rattle.plist_object.specs.References.{references_of}
 use Rattle.plist_binary.specs.declared.path.Path.{Path, Above, In'}
 
 -- object j refers to i
 pub record Refers (f : List ℕ) (j i : ℕ) : Type 0 where
-  pub held : Held
+  pub held : Content
   pub holds : Holds f j held
   pub among : Contains (references_of held) i
 

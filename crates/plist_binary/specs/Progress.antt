@@ -2,7 +2,7 @@
 use Rattle.std.specs.Prelude.{ℕ, List}
 use Rattle.plist_object.specs.KeyOrder.{IsReady}
 use Rattle.plist_binary.specs.declared.progress.Progress.{Progress}
-use Rattle.plist_binary.specs.Memos.{AreStates, AreStatesBut, HaveTexts}
+use Rattle.plist_binary.specs.States.{AreStates, AreStatesBut, HaveTexts}
 use Rattle.plist_binary.specs.Passing.{IsWithinLimits}
 use Rattle.plist_binary.specs.Recalls.{IsKnownLast}
 

@@ -2,10 +2,10 @@
 ghost use Rattle.std.specs.Prelude.{◌≡◌, ◌<◌, ◌≤◌, length, map, IfOk};
 ghost use Rattle.plist_value.specs.View.{view, view_items, view_pairs};
 ghost use Rattle.plist_value.specs.Texts.{units_of};
-ghost use Rattle.plist_object.specs.Objects.{IsHeld};
+ghost use Rattle.plist_object.specs.Objects.{IsContent};
 ghost use Rattle.plist_object.specs.Places.{Holds};
 ghost use Rattle.plist_object.specs.Views.{held_of, numbers_of, octets_of};
-ghost use Rattle.plist_binary.specs.Keys.{units_at, AreInPlace};
+ghost use Rattle.plist_binary.specs.Keys.{key_units, AreIndexed};
 ghost use Rattle.plist_binary.specs.Building.{SpellsText, AllSpellWithin};
 ghost use Rattle.plist_object.specs.Spelled.{SpellsWithin};
 ghost use Rattle.plist_binary.specs.Building.{AllSpellTexts, SpellsPairsWithin, HoldsSome};
@@ -76,18 +76,18 @@ impl<'a> Builder<'a> {
         dictionary::table(self.alloc, keys, values)
     }
 
-    // Returns the strings that the references point to, each with its index as its place.
+    // Returns the strings that the references point to, each with its index.
     fn keys(&self, refs: Refs) -> Result<Vec<Key<'a>>, AllocError>
         requires { AllSpellTexts (octets_of self.now.file) (numbers_of refs) }
         ensures texts { IfOk result (λ keys. AreTexts (octets_of self.now.file)
-            (numbers_of refs.entry) (map units_at keys.items)) }
-        ensures placed { IfOk result (λ keys. AreInPlace keys.items) }
+            (numbers_of refs.entry) (map key_units keys.items)) }
+        ensures placed { IfOk result (λ keys. AreIndexed keys.items) }
     {
         let mut keys = Vec::with_capacity(self.alloc, refs.len() as usize)?;
         for i in 0..refs.len() {
             let text = self.text(refs.get(i));
-            let place = keys.len();
-            keys.push(Key { text, place })?;
+            let index = keys.len();
+            keys.push(Key { text, index })?;
         }
         Ok(keys)
     }
@@ -102,7 +102,7 @@ impl<'a> Builder<'a> {
     fn held(&self, object: u64) -> Object<'a>
         requires { HoldsSome (octets_of self.now.file) object }
         ensures held { Holds (octets_of self.now.file) object (held_of result) }
-        ensures valid { IsHeld (held_of result) }
+        ensures valid { IsContent (held_of result) }
     {
         self.file.object(object).unwrap()
     }

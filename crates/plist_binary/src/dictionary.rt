@@ -5,7 +5,7 @@ ghost use Rattle.std.specs.Cmp.Lexicographic.{slice_cmp};
 ghost use Rattle.std.specs.List.{IsDistinct};
 ghost use Rattle.std.specs.List.Sorted.{IsPermutation, IsStrictlySortedBy};
 ghost use Rattle.std.specs.Map.{keys_of};
-ghost use Rattle.plist_binary.specs.Keys.{units_at, place_of, pair_at};
+ghost use Rattle.plist_binary.specs.Keys.{key_units, index_of, pair_at};
 
 use crate::copies;
 use plist_value::{TextRef, Utf16, Value};
@@ -18,16 +18,16 @@ use std::mem;
 #[derive(Clone, Copy)]
 pub(crate) struct Key<'a> {
     pub(crate) text: TextRef<'a>,
-    pub(crate) place: usize,
+    pub(crate) index: usize,
 }
 
 // Sorts the keys and returns whether no two are equal.
 pub(crate) fn sort(keys: &mut [Key]) -> bool
     ensures moved { IsPermutation keys.old keys.new }
     ensures distinct { IsTrue result ↔ IsDistinct (eq_by_cmp (slice_cmp nat_cmp))
-        (map units_at keys.old) }
+        (map key_units keys.old) }
     ensures ascend { IsTrue result ↔ IsStrictlySortedBy (slice_cmp nat_cmp)
-        (map units_at keys.new) }
+        (map key_units keys.new) }
 {
     keys.sort_unstable_by_key(|key| key.text);
     ascend(keys)
@@ -35,7 +35,7 @@ pub(crate) fn sort(keys: &mut [Key]) -> bool
 
 // Returns whether each key is below the next.
 fn ascend(keys: &[Key]) -> bool
-    ensures { IsTrue result ↔ IsStrictlySortedBy (slice_cmp nat_cmp) (map units_at keys.now) }
+    ensures { IsTrue result ↔ IsStrictlySortedBy (slice_cmp nat_cmp) (map key_units keys.now) }
 {
     for i in 1..keys.len() {
         if !is_below(&keys[i - 1], &keys[i]) {
@@ -47,7 +47,7 @@ fn ascend(keys: &[Key]) -> bool
 
 fn is_below(key: &Key, next: &Key) -> bool
     ensures { IsTrue result
-        ↔ (slice_cmp nat_cmp (units_at key.now) (units_at next.now) ≡ Ordering.Less) }
+        ↔ (slice_cmp nat_cmp (key_units key.now) (key_units next.now) ≡ Ordering.Less) }
 {
     key.text < next.text
 }
@@ -59,9 +59,9 @@ pub(crate) fn table(
     keys: Vec<Key>,
     values: Vec<Value>,
 ) -> Result<BTreeMap<Utf16, Value>, AllocError>
-    requires within { All (λ key. place_of key < length values.items) keys.items }
-    requires apart { IsDistinct (λ x y. x == y) (map place_of keys.items) }
-    requires ascend { IsStrictlySortedBy (slice_cmp nat_cmp) (map units_at keys.items) }
+    requires within { All (λ key. index_of key < length values.items) keys.items }
+    requires apart { IsDistinct (λ x y. x == y) (map index_of keys.items) }
+    requires ascend { IsStrictlySortedBy (slice_cmp nat_cmp) (map key_units keys.items) }
     ensures pairs { IfOk result (λ pairs. pairs.entries ≡ map (pair_at values.items)
         keys.entry.items) }
     ensures ordered { IfOk result (λ pairs. IsStrictlySortedBy (slice_cmp nat_cmp)
@@ -71,7 +71,7 @@ pub(crate) fn table(
     let mut values = values;
     let mut pairs = BTreeMap::new(alloc);
     while let Some(key) = keys.pop() {
-        let value = mem::replace(&mut values[key.place], Value::Flag(false));
+        let value = mem::replace(&mut values[key.index], Value::Flag(false));
         drop(pairs.insert(copies::utf16(alloc, key.text)?, value)?);
     }
     Ok(pairs)

@@ -169,9 +169,9 @@ impl BinaryFault {
 /// `14 DuplicateKey at object 0`.
 impl fmt::Display for BinaryFault {
     ghost use Rattle.std.specs.Prelude.{Some};
-    ghost use Rattle.plist_binary.specs.Codes.{fault_text};
+    ghost use Rattle.plist_binary.specs.Codes.{binary_fault_text};
 
-    ghost output = { λ fault. Some (fault_text fault) };
+    ghost output = { λ fault. Some (binary_fault_text fault) };
 
     fn fmt<W: fmt::Write>(&self, f: &mut fmt::Formatter<W>) -> fmt::Result {
         let report = self.report();

@@ -7,10 +7,10 @@ mod dictionary;
 pub mod fault;
 mod judging;
 mod last_keys;
-mod memos;
 mod path;
 mod progress;
 mod reader;
+mod states;
 mod visiting;
 mod walking;
 

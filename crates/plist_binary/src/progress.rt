@@ -1,13 +1,13 @@
 //! The progress of a walk.
 ghost use Rattle.std.specs.Prelude.{◌≡◌, ℕ, true, List, [], IfSome};
-ghost use Rattle.plist_binary.specs.Memos.{AreStates};
+ghost use Rattle.plist_binary.specs.States.{AreStates};
 ghost use Rattle.plist_binary.specs.Budgets.{limits};
 ghost use Rattle.plist_binary.specs.Passing.{Passes};
 ghost use Rattle.plist_binary.specs.Readings.{ReadsKey};
 ghost use Rattle.plist_binary.specs.Progress.{IsProgress};
 
 use crate::last_keys::LastKeys;
-use crate::memos::{Memo, State, state_at};
+use crate::states::{ObjectState, ValueSize, state_at};
 use plist_object::{BinFile, KeyOrder};
 use plist_value::Budget;
 use std::alloc::Global;
@@ -15,7 +15,7 @@ use std::alloc::Global;
 // What is known of objects and of keys, and what is left of the budget.
 #[derive(Drop)]
 pub(crate) struct Progress<'a> {
-    pub(crate) states: Vec<State>,
+    pub(crate) states: Vec<ObjectState>,
     pub(crate) last: Option<LastKeys<'a>>,
     pub(crate) order: KeyOrder<'a>,
     pub(crate) left: Budget,
@@ -46,12 +46,12 @@ impl<'a> Progress<'a> {
             → Passes f object levels self.now.left known.0 known.1
             self.now.writable self.now.writable) }
     {
-        let memo = state_at(&self.states, object).memo()?;
-        let deep = u64::from(memo.depth);
+        let size = state_at(&self.states, object).size()?;
+        let deep = u64::from(size.depth);
         if levels < deep {
             return None;
         }
-        Some((deep, memo.take(self.left)?))
+        Some((deep, size.take(self.left)?))
     }
 
     // Returns the budget left after an object that was a key before, or `None` if it was none or
@@ -60,13 +60,13 @@ impl<'a> Progress<'a> {
         ensures { IfSome result (λ rest. (f path : List ℕ) → AreStates f path self.now.states.items
             → ReadsKey f object levels self.now.left rest) }
     {
-        let State::Key { payload } = state_at(&self.states, object) else {
+        let ObjectState::Key { payload } = state_at(&self.states, object) else {
             return None;
         };
         if levels == 0 {
             return None;
         }
-        let rest = Memo::of_key(payload).take(self.left)?;
+        let rest = ValueSize::of_key(payload).take(self.left)?;
         Some(rest)
     }
 }

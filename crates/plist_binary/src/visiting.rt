@@ -9,20 +9,20 @@ ghost use Rattle.plist_value.specs.Limits.{payload_of_scalar};
 ghost use Rattle.plist_value.specs.Scalars.{content_of};
 ghost use Rattle.plist_value.specs.Texts.{units_of};
 ghost use Rattle.plist_object.specs.Layout.{IsLaid, trailer_of};
-ghost use Rattle.plist_object.specs.Objects.{IsHeld, holds_scalar};
+ghost use Rattle.plist_object.specs.Objects.{IsContent, holds_scalar};
 ghost use Rattle.plist_object.specs.Places.{what_holds};
 ghost use Rattle.plist_object.specs.Views.{octets_of, held_of};
 ghost use Rattle.plist_binary.specs.Begins.{IsBegun};
 ghost use Rattle.plist_binary.specs.Faults.{IsText};
-ghost use Rattle.plist_binary.specs.Memos.{AreStates};
+ghost use Rattle.plist_binary.specs.States.{AreStates};
 ghost use Rattle.plist_binary.specs.Progress.{IsProgress};
 ghost use Rattle.plist_binary.specs.Paths.{containers_of, IsKeyOf};
 ghost use Rattle.plist_binary.specs.Readings.{Refuses, ReadsKey, RefusesKey};
 
 use crate::BinaryFault;
-use crate::memos::{Memo, State, mark, state_at};
 use crate::path::Path;
 use crate::progress::Progress;
+use crate::states::{ObjectState, ValueSize, mark, state_at};
 use plist_object::{BinFile, Object};
 use plist_value::{Budget, ScalarRef, TextRef};
 
@@ -68,8 +68,8 @@ impl<'a> Visitor<'a> {
             return Err(BinaryFault::KeyNotText { object: table });
         };
         take_payload(&mut progress.left, object, ScalarRef::Text(key))?;
-        let memo = Memo::of(start, progress.left, 1);
-        mark(&mut progress.states, self.file.count(), object, memo.key())?;
+        let size = ValueSize::of(start, progress.left, 1);
+        mark(&mut progress.states, self.file.count(), object, size.key())?;
         Ok(())
     }
 
@@ -104,7 +104,7 @@ impl<'a> Visitor<'a> {
             progress.old }
         ensures held { IfOk result (λ held. what_holds (octets_of self.now.file) object ≡ Ok
             (held_of held)) }
-        ensures valid { IfOk result (λ held. IsHeld (held_of held)) }
+        ensures valid { IfOk result (λ held. IsContent (held_of held)) }
         ensures new { OnOk result (¬ Contains (containers_of path.now) object) }
         ensures deep { OnOk result (1 ≤ levels) }
         ensures spent { OnOk result (Spends progress.old.left 1 0 progress.new.left) }
@@ -143,10 +143,10 @@ impl<'a> Visitor<'a> {
             levels progress.now.left) }
     {
         match state_at(&progress.states, object) {
-            State::Unseen => Ok(()),
-            State::Passed { .. } => Ok(()),
-            State::Key { .. } => Ok(()),
-            State::Open => match path {
+            ObjectState::Unseen => Ok(()),
+            ObjectState::Passed { .. } => Ok(()),
+            ObjectState::Key { .. } => Ok(()),
+            ObjectState::Open => match path {
                 Path::Above => Ok(()),
                 Path::In(container, _) => Err(BinaryFault::Cycle { object: *container }),
             },

@@ -18,9 +18,9 @@ ghost use Rattle.plist_binary.specs.Recalls.{ReadsApart, RefusesTable};
 
 use crate::BinaryFault;
 use crate::last_keys::{LastKeys, recall_keys};
-use crate::memos::{Memo, State, mark};
 use crate::path::Path;
 use crate::progress::Progress;
+use crate::states::{ObjectState, ValueSize, mark};
 use crate::visiting::{Visitor, take_payload};
 use plist_object::{Object, Refs};
 use plist_value::{MAX_DEPTH, ScalarRef};
@@ -45,7 +45,7 @@ impl<'a> Walker<'a> {
     {
         let mut progress = Progress::none(self.alloc, &self.visitor.file);
         let top = self.visitor.file.top();
-        self.pass(&mut progress, &Path::Above, top, MAX_DEPTH)?;
+        self.validate(&mut progress, &Path::Above, top, MAX_DEPTH)?;
         Ok(progress)
     }
 
@@ -53,7 +53,7 @@ impl<'a> Walker<'a> {
     // the depth allowed.
     #[cycle(walk)]
     #[inline(always)]
-    fn pass(
+    fn validate(
         &self,
         progress: &mut Progress<'a>,
         path: &Path,
@@ -103,9 +103,9 @@ impl<'a> Walker<'a> {
     {
         let before = progress.left;
         let deep = self.content(progress, path, object, levels)?;
-        let memo = Memo::of(before, progress.left, deep);
+        let size = ValueSize::of(before, progress.left, deep);
         let count = self.visitor.file.count();
-        mark(&mut progress.states, count, object, memo.passed())?;
+        mark(&mut progress.states, count, object, size.passed())?;
         Ok(deep)
     }
 
@@ -140,12 +140,12 @@ impl<'a> Walker<'a> {
                 Ok(1)
             }
             Object::List(items) => {
-                mark(&mut progress.states, count, object, State::Open)?;
+                mark(&mut progress.states, count, object, ObjectState::Open)?;
                 let deep = self.items(progress, object, path, items, levels - 1)?;
                 Ok(1 + deep)
             }
             Object::Table(keys, values) => {
-                mark(&mut progress.states, count, object, State::Open)?;
+                mark(&mut progress.states, count, object, ObjectState::Open)?;
                 self.keys_apart(progress, object, path, keys, levels - 1)?;
                 let deep = self.items(progress, object, path, values, levels - 1)?;
                 Ok(1 + deep)
@@ -180,7 +180,7 @@ impl<'a> Walker<'a> {
         let mut deepest = 0;
         for i in 0..refs.len() {
             let object = self.visitor.referred(container, refs.get(i))?;
-            let deep = self.pass(&mut *progress, &path, object, levels)?;
+            let deep = self.validate(&mut *progress, &path, object, levels)?;
             deepest = deeper(deepest, deep);
         }
         Ok(deepest)

@@ -4,18 +4,18 @@ use Rattle.std.specs.List.{concat}
 use Rattle.std.proofs.lemmas.List.{take_at, drop-drop}
 use Rattle.plist_object.specs.declared.object.ObjectFault.{ObjectFault}
 use Rattle.plist_object.specs.Layout.{header, Trailer, trailer_of, slack_of}
-use Rattle.plist_object.specs.Objects.{Held, object_in}
+use Rattle.plist_object.specs.Objects.{Content, object_in}
 use Rattle.plist_object.specs.Places.{place_of, octets_at, object_at, span_of}
 use Rattle.plist_object.specs.Spelling.{least_width, references}
 use Rattle.plist_object.specs.Shortest.{spelling_of, IsShortest}
 use Rattle.plist_object.specs.Files.{starts}
-use Rattle.plist_engine.specs.Canonical.{trailer_octets, file_of}
+use Rattle.plist_write.specs.Canonical.{trailer_octets, file_of}
 use Rattle.plist_canon.specs.Rules.{HasPlainTrailer, HasLeastWidths, Adjoins}
 use Rattle.plist_object.proofs.Files.{is_piece, before_trailer, before_table, drop-end}
-use Rattle.plist_engine.proofs.File.{trailer_for, trailer_of-file, place_of-file}
+use Rattle.plist_write.proofs.File.{trailer_for, trailer_of-file, place_of-file}
 
 -- object i begins at its offset, and ends where the remaining bytes begin
-span_of-is : (f : List ℕ) (i start table : ℕ) (held : Held) (octets behind : List ℕ) → octets_at f i ≡ Ok octets → place_of f i ≡ start → (trailer_of f).table ≡ table → object_in (trailer_of f).reference_width octets ≡ Ok (held, behind) → span_of f i ≡ Ok (start, table - length behind)
+span_of-is : (f : List ℕ) (i start table : ℕ) (held : Content) (octets behind : List ℕ) → octets_at f i ≡ Ok octets → place_of f i ≡ start → (trailer_of f).table ≡ table → object_in (trailer_of f).reference_width octets ≡ Ok (held, behind) → span_of f i ≡ Ok (start, table - length behind)
 unfolding span_of object_at
 span_of-is f i start table held octets behind at place is reads = rw (at, reads, place, is) refl
 
@@ -129,7 +129,7 @@ module _ (objects : List (List ℕ)) (some : 1 ≤ length objects)
       }
 
   -- the bytes of each object encode its content, whatever follows it
-  module _ (held : ℕ → Held)
+  module _ (held : ℕ → Content)
       (reads : (i : ℕ) (behind : List ℕ) → i < length objects → object_in (least_width (length objects)) (get_or objects i [] ++ behind) ≡ Ok (held i, behind))
       (spelled : (i : ℕ) → i < length objects → get_or objects i [] ≡ spelling_of (least_width (length objects)) (held i)) where
     span : (i : ℕ) → i < length objects → span_of (file_of objects) i ≡ Ok (get_or (starts 8 objects) i 0, get_or (starts 8 objects) i 0 + length (get_or objects i []))

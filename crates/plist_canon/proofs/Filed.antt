@@ -11,15 +11,15 @@ use Rattle.plist_object.specs.Places.{place_of, Holds}
 use Rattle.plist_object.specs.Spelling.{least_width, references}
 use Rattle.plist_object.proofs.SameOctets.{references-numbers, AreOctets-drop}
 use Rattle.plist_object.specs.Files.{starts}
-use Rattle.plist_engine.specs.Canonical.{trailer_octets, file_of, object_octets, objects_of, canon}
+use Rattle.plist_write.specs.Canonical.{trailer_octets, file_of, object_octets, objects_of, canon}
 use Rattle.plist_canon.specs.Rules.{HasPlainTrailer, HasLeastWidths, Adjoins, IsSpelledCanonically}
 use Rattle.plist_canon.proofs.Occupied.{Touch, StandsAt, pieces_make, numbers-starts, Occupies, trailer-is, occupies}
 use Rattle.plist_object.specs.Shortest.{spelling_of}
-use Rattle.plist_engine.specs.Tree.{preorder}
-use Rattle.plist_engine.specs.Sharing.{kept_places, value_at}
-use Rattle.plist_engine.specs.Found.{held_at, number_in}
-use Rattle.plist_engine.proofs.Found.{octets-held}
-use Rattle.plist_canon.proofs.KeptPlaces.{is_made}
+use Rattle.plist_write.specs.Tree.{preorder}
+use Rattle.plist_write.specs.Sharing.{kept_positions, value_at}
+use Rattle.plist_write.specs.Found.{held_at, number_in}
+use Rattle.plist_write.proofs.Found.{octets-held}
+use Rattle.plist_canon.proofs.KeptPositions.{is_made}
 
 -- a file is the concatenation of its four parts
 join_file : (f head body offsets trailer : List ℕ) (t n : ℕ) → take 8 (take t f) ≡ head → drop 8 (take t f) ≡ body → take n (drop t f) ≡ offsets → drop n (drop t f) ≡ trailer → f ≡ head ++ (body ++ (offsets ++ trailer))
@@ -104,9 +104,9 @@ module _ (f : List ℕ) (octets : AreOctets f) (laid : IsLaid f) (plain : HasPla
   trailer : drop (length objects * w) (drop t f) ≡ trailer_octets (length objects) t
   trailer =
       let whole = size in
-      let place : t + length objects * w ≡ length f - 32 = omega arith in
+      let position : t + length objects * w ≡ length f - 32 = omega arith in
       let long = laid.long in
-      drop-drop (length objects * w) t f ∙ ap (λ (n : ℕ). drop n f) place ∙ trailer-is f octets (omega arith) plain least ∙ ap (λ (n : ℕ). trailer_octets n t) count
+      drop-drop (length objects * w) t f ∙ ap (λ (n : ℕ). drop n f) position ∙ trailer-is f octets (omega arith) plain least ∙ ap (λ (n : ℕ). trailer_octets n t) count
 
   pub file_of-is : file_of objects ≡ f
   file_of-is =
@@ -116,31 +116,31 @@ module _ (f : List ℕ) (octets : AreOctets f) (laid : IsLaid f) (plain : HasPla
       let parts = join_file f header (concat objects) (references (least_width t) (starts 8 objects)) (trailer_octets (length objects) t) t (length objects * w) head body (offsets ∙ width) trailer in
       sym (parts ∙ ap (λ (p : ℕ). header ++ (concat objects ++ (references (least_width p) (starts 8 objects) ++ trailer_octets (length objects) p))) table-is)
 
--- A file is canonical if its objects decode as the places of a tree do, have their canonical
+-- A file is canonical if its objects decode as the positions of a tree do, have their canonical
 -- encoding, and are contiguous.
 
 module _ (f : List ℕ) (octets : AreOctets f) (laid : IsLaid f) (plain : HasPlainTrailer f) (least : HasLeastWidths f)
     (adjoins : (i : ℕ) → i < (trailer_of f).count → Adjoins f i)
     (canonically : (i : ℕ) → i < (trailer_of f).count → IsSpelledCanonically f i)
-    (all : List Plist) (count : (trailer_of f).count ≡ length (kept_places all))
+    (all : List Plist) (count : (trailer_of f).count ≡ length (kept_positions all))
     (holds : (k : ℕ) → k < length all → Holds f (number_in all k) (held_at (number_in all) k (value_at all k))) where
-  -- object i is made at a place, and contains what is there
-  occupies_kept : (i : ℕ) → i < length (kept_places all) → Occupies f i (get_or (objects_of all) i [])
+  -- object i is made at a position, and contains what is there
+  occupies_kept : (i : ℕ) → i < length (kept_positions all) → Occupies f i (get_or (objects_of all) i [])
   occupies_kept i h =
-      let width = least_width (length (kept_places all)) in
+      let width = least_width (length (kept_positions all)) in
       let made = is_made all i h in
-      let v = value_at all made.place in
-      let held = held_at (number_in all) made.place v in
-      let numbered : Holds f i held = subst (λ (n : ℕ). Holds f n held) made.number_is (holds made.place made.below) in
+      let v = value_at all made.position in
+      let held = held_at (number_in all) made.position v in
+      let numbered : Holds f i held = subst (λ (n : ℕ). Holds f n held) made.number_is (holds made.position made.below) in
       let ends = laid.trailed.ends in
       let spelled = occupies f i held (omega arith) numbered (canonically i (omega arith)) in
       let widths : (trailer_of f).reference_width ≡ width = least.reference ∙ ap least_width count in
-      let same = ap (λ (n : ℕ). spelling_of n held) widths ∙ octets-held (number_in all) width made.place v in
-      let entry : get_or (objects_of all) i [] ≡ object_octets (number_in all) width made.place v = get_or-map (λ p. object_octets (number_in all) width p.0 p.1) (kept_places all) i (0, list no_items) [] h ∙ ap (λ (p : ℕ × Plist). object_octets (number_in all) width p.0 p.1) made.entry_is in
+      let same = ap (λ (n : ℕ). spelling_of n held) widths ∙ octets-held (number_in all) width made.position v in
+      let entry : get_or (objects_of all) i [] ≡ object_octets (number_in all) width made.position v = get_or-map (λ p. object_octets (number_in all) width p.0 p.1) (kept_positions all) i (0, list no_items) [] h ∙ ap (λ (p : ℕ × Plist). object_octets (number_in all) width p.0 p.1) made.entry_is in
       subst (Occupies f i) (same ∙ sym entry) spelled
 
-  objects_listed : length (objects_of all) ≡ length (kept_places all)
-  objects_listed = length-map (kept_places all) _
+  objects_listed : length (objects_of all) ≡ length (kept_positions all)
+  objects_listed = length-map (kept_positions all) _
 
   formed : file_of (objects_of all) ≡ f
   formed =
@@ -148,7 +148,7 @@ module _ (f : List ℕ) (octets : AreOctets f) (laid : IsLaid f) (plain : HasPla
       file_of-is f octets laid plain least (objects_of all) (count ∙ sym listed)
       (λ i h. adjoins i (omega arith)) (λ i h. occupies_kept i (omega arith))
 
-pub file_is_canonical : (f : List ℕ) → AreOctets f → IsLaid f → HasPlainTrailer f → HasLeastWidths f → ((i : ℕ) → i < (trailer_of f).count → Adjoins f i) → ((i : ℕ) → i < (trailer_of f).count → IsSpelledCanonically f i) → (v : Plist) → (trailer_of f).count ≡ length (kept_places (preorder v)) → ((k : ℕ) → k < length (preorder v) → Holds f (number_in (preorder v) k) (held_at (number_in (preorder v)) k (value_at (preorder v) k))) → canon v ≡ f
+pub file_is_canonical : (f : List ℕ) → AreOctets f → IsLaid f → HasPlainTrailer f → HasLeastWidths f → ((i : ℕ) → i < (trailer_of f).count → Adjoins f i) → ((i : ℕ) → i < (trailer_of f).count → IsSpelledCanonically f i) → (v : Plist) → (trailer_of f).count ≡ length (kept_positions (preorder v)) → ((k : ℕ) → k < length (preorder v) → Holds f (number_in (preorder v) k) (held_at (number_in (preorder v)) k (value_at (preorder v) k))) → canon v ≡ f
 unfolding canon
 file_is_canonical f octets laid plain least adjoins canonically v count holds =
     formed f octets laid plain least adjoins canonically (preorder v) count holds

@@ -3,24 +3,24 @@ use Rattle.std.proofs.Common.{◌≡◌, ℕ, ◌+◌, ◌<◌, ◌≤◌, List,
 use Rattle.plist_value.specs.Plist.{Plist, no_items, list, IsPlist, AreOctets}
 use Rattle.plist_value.specs.Limits.{Fits}
 use Rattle.plist_object.specs.Layout.{Trailer, IsLaid}
-use Rattle.plist_object.specs.Objects.{Held, object_in}
+use Rattle.plist_object.specs.Objects.{Content, object_in}
 use Rattle.plist_object.specs.Spelled.{Spells}
 use Rattle.plist_object.proofs.Uniqueness.{same_value}
 use Rattle.plist_object.specs.Shortest.{spelling_of}
 use Rattle.plist_object.specs.Spelling.{least_width}
-use Rattle.plist_engine.specs.Tree.{preorder}
-use Rattle.plist_engine.specs.Sharing.{kept_places, value_at}
-use Rattle.plist_engine.specs.Canonical.{objects_of, file_of, canon}
-use Rattle.plist_engine.specs.Found.{OccursAt, held_at, number_in}
+use Rattle.plist_write.specs.Tree.{preorder}
+use Rattle.plist_write.specs.Sharing.{kept_positions, value_at}
+use Rattle.plist_write.specs.Canonical.{objects_of, file_of, canon}
+use Rattle.plist_write.specs.Found.{OccursAt, held_at, number_in}
 use Rattle.plist_canon.specs.Rules.{FollowsRules, IsNumberedInPreorder, IsBroken, breaks_c0, breaks_limits, breaks_c1, breaks_c2, breaks_c3, breaks_c4, breaks_c5, breaks_c6, breaks_c7, leaves_over}
-use Rattle.plist_engine.proofs.Trees.{OccursAt-all}
-use Rattle.plist_engine.proofs.Sound.{IsSound, EachSound, EachSound-tree, EachSound-at, sound_from_Fits}
-use Rattle.plist_engine.proofs.Sizes.{total}
-use Rattle.plist_engine.proofs.Reading.{object_in-octets}
-use Rattle.plist_engine.proofs.Found.{octets-held}
-use Rattle.plist_engine.proofs.Binary.{number-fits, length-objects_of, objects-at, objects-some, some-objects, count-fits, table-fits, place-holds, trailer, tree-some, few, light, canon-spells, canon-laid}
-use Rattle.plist_canon.proofs.KeptPlaces.{EachOccurs-tree, EachOccurs-at, is_made}
-use Rattle.plist_canon.proofs.PlaceRules.{HasObjects, well_read, ascending, no_repeat, numbered}
+use Rattle.plist_write.proofs.Trees.{OccursAt-all}
+use Rattle.plist_write.proofs.Sound.{IsSound, EachSound, EachSound-tree, EachSound-at, sound_from_Fits}
+use Rattle.plist_write.proofs.Sizes.{total}
+use Rattle.plist_write.proofs.Reading.{object_in-octets}
+use Rattle.plist_write.proofs.Found.{octets-held}
+use Rattle.plist_write.proofs.Binary.{number-fits, length-objects_of, objects-at, objects-some, some-objects, count-fits, table-fits, position-holds, trailer, tree-some, few, light, canon-spells, canon-laid}
+use Rattle.plist_canon.proofs.KeptPositions.{EachOccurs-tree, EachOccurs-at, is_made}
+use Rattle.plist_canon.proofs.PositionRules.{HasObjects, well_read, ascending, no_repeat, numbered}
 use Rattle.plist_canon.proofs.FileRules.{plain_trailer, least_widths, adjoins, shortest}
 use Rattle.std.specs.Prelude.{◌↔◌}
 use Rattle.plist_canon.specs.Checking.{IsVerdict}
@@ -32,33 +32,33 @@ use Rattle.plist_canon.proofs.Filed.{file_is_canonical}
 
 module _ (all : List Plist) (some : 1 ≤ length all) (small : length all ≤ 16777216) (each : EachSound all) where
   abbrev kept_at : ℕ → ℕ × Plist
-  kept_at i = get_or (kept_places all) i (0, list no_items)
+  kept_at i = get_or (kept_positions all) i (0, list no_items)
 
-  kept_sound : (i : ℕ) → i < length (kept_places all) → IsSound (kept_at i).1
-  kept_sound i h = let made = is_made all i h in subst (λ (p : ℕ × Plist). IsSound p.1) (sym made.entry_is) (EachSound-at all made.place made.below each)
+  kept_sound : (i : ℕ) → i < length (kept_positions all) → IsSound (kept_at i).1
+  kept_sound i h = let made = is_made all i h in subst (λ (p : ℕ × Plist). IsSound p.1) (sym made.entry_is) (EachSound-at all made.position made.below each)
 
-  abbrev held_of : ℕ → Held
+  abbrev held_of : ℕ → Content
   held_of i = held_at (number_in all) (kept_at i).0 (kept_at i).1
 
   object_reads : (i : ℕ) (behind : List ℕ) → i < length (objects_of all) → object_in (least_width (length (objects_of all))) (get_or (objects_of all) i [] ++ behind) ≡ Ok (held_of i, behind)
   object_reads i behind h =
       let listed = length-objects_of all some small each in
-      let below : i < length (kept_places all) = omega arith in
-      let width = least_width (length (kept_places all)) in
+      let below : i < length (kept_positions all) = omega arith in
+      let width = least_width (length (kept_positions all)) in
       ap (λ (n : ℕ). object_in (least_width n) (get_or (objects_of all) i [] ++ behind)) listed ∙ ap (λ (xs : List ℕ). object_in width (xs ++ behind)) (objects-at all some small each i below) ∙ object_in-octets (number_in all) width (kept_at i).0 (kept_at i).1 behind (number-fits all some small each) (kept_sound i below)
 
   object_spelled : (i : ℕ) → i < length (objects_of all) → get_or (objects_of all) i [] ≡ spelling_of (least_width (length (objects_of all))) (held_of i)
   object_spelled i h =
       let listed = length-objects_of all some small each in
-      let below : i < length (kept_places all) = omega arith in
-      let width = least_width (length (kept_places all)) in
+      let below : i < length (kept_positions all) = omega arith in
+      let width = least_width (length (kept_positions all)) in
       objects-at all some small each i below ∙ sym (octets-held (number_in all) width (kept_at i).0 (kept_at i).1) ∙ ap (λ (n : ℕ). spelling_of (least_width n) (held_of i)) (sym listed)
 
   module _ (slight : 8 + total all < 18446744073709551616) (stands : (k : ℕ) → k < length all → OccursAt all k (preorder (value_at all k))) where
     has_objects : HasObjects (file_of (objects_of all)) all
     has_objects = record {
       counted = ap (λ (x : Trailer). x.count) (trailer all some small each slight) ∙ length-objects_of all some small each;
-      reads = place-holds all some small each slight;
+      reads = position-holds all some small each slight;
       stands = stands;
     }
 

@@ -15,7 +15,7 @@ use Rattle.plist_object.specs.declared.object.Object.TheVariants as shown
 use Rattle.plist_object.specs.declared.object.ObjectFault.{ObjectFault}
 use Rattle.plist_object.specs.Views.{held_of}
 use Rattle.plist_object.specs.Layout.{trailer_of}
-use Rattle.plist_object.specs.Objects.{Held, holds_scalar, holds_list, holds_table, ◌>>=◌}
+use Rattle.plist_object.specs.Objects.{Content, holds_scalar, holds_list, holds_table, ◌>>=◌}
 use Rattle.plist_object.specs.Places.{Holds, object_at, place_of, what_holds, span_of, HoldsText}
 use Rattle.plist_object.proofs.Readable.{Holds-reads}
 use Rattle.plist_canon.specs.Rules.{HoldTexts, IsWellRead, HasAscendingKeys, Adjoins}
@@ -42,11 +42,11 @@ pub all_rest : (P : ℕ → Type 0) (xs ys : List ℕ) → AllByRecursion P (xs 
 all_rest P [] ys all = all
 all_rest P (x ∷ xs) ys all = all_rest P xs ys all.1
 
-span_reads : (m : Result (Held × List ℕ) ObjectFault) (g : Held × List ℕ → ℕ × ℕ) → IsOk m → IsOk (m >>= λ read. Ok (g read))
+span_reads : (m : Result (Content × List ℕ) ObjectFault) (g : Content × List ℕ → ℕ × ℕ) → IsOk m → IsOk (m >>= λ read. Ok (g read))
 span_reads (Ok read) g ok = refl
 span_reads (Err fault) g ok = ok
 
-pub Holds-span : (f : List ℕ) (i : ℕ) (held : Held) → Holds f i held → IsOk (span_of f i)
+pub Holds-span : (f : List ℕ) (i : ℕ) (held : Content) → Holds f i held → IsOk (span_of f i)
 unfolding span_of
 Holds-span f i held holds = span_reads (object_at f i) _ (Holds-reads f i held holds)
 
@@ -54,9 +54,9 @@ Holds-span f i held holds = span_reads (object_at f i) _ (Holds-reads f i held h
 abbrev ok_pair : ℕ × ℕ → Result (ℕ × ℕ) ObjectFault
 ok_pair p = Ok p
 
-started : (place table : ℕ) (m : Result (Held × List ℕ) ObjectFault) → IsOk m → (end : ℕ) × ((m >>= λ read. ok_pair (place, table - length read.1)) ≡ ok_pair (place, end))
-started place table (Ok read) ok = (table - length read.1, refl)
-started place table (Err fault) ok = absurd (true≢false (sym ok))
+started : (offset table : ℕ) (m : Result (Content × List ℕ) ObjectFault) → IsOk m → (end : ℕ) × ((m >>= λ read. ok_pair (offset, table - length read.1)) ≡ ok_pair (offset, end))
+started offset table (Ok read) ok = (table - length read.1, refl)
+started offset table (Err fault) ok = absurd (true≢false (sym ok))
 
 pub span-starts : (f : List ℕ) (i : ℕ) → IsOk (object_at f i) → (end : ℕ) × (span_of f i ≡ Ok (place_of f i, end))
 unfolding span_of
@@ -113,25 +113,25 @@ HasAscendingKeys-turns f i keys values holds ascend others more texts reads hold
     sorted_from_turns f keys texts (subst (λ (refs : List ℕ). HoldTexts f refs texts) same hold) ascend
 
 -- an object that begins elsewhere breaks rule 3
-pub not-Adjoins : (f : List ℕ) (i place start end : ℕ) → IsEndBefore f i place → span_of f i ≡ Ok (start, end) → start ≢ place → ¬ Adjoins f i
-not-Adjoins f zero place start end before span other adjoins =
+pub not-Adjoins : (f : List ℕ) (i offset start end : ℕ) → IsEndBefore f i offset → span_of f i ≡ Ok (start, end) → start ≢ offset → ¬ Adjoins f i
+not-Adjoins f zero offset start end before span other adjoins =
     other (adjoins.first start end refl span ∙ sym before)
-not-Adjoins f (suc i) place start end before span other adjoins =
-    other (adjoins.next i before.0 place start end refl before.1 span)
+not-Adjoins f (suc i) offset start end before span other adjoins =
+    other (adjoins.next i before.0 offset start end refl before.1 span)
 
 pub same_span : (f : List ℕ) (i a b c d : ℕ) → span_of f i ≡ Ok (a, b) → span_of f i ≡ Ok (c, d) → (a ≡ c) × (b ≡ d)
 same_span f i a b c d first second =
     let e : (a, b) ≡ (c, d) = (let e2 : ok_pair (a, b) ≡ ok_pair (c, d) = sym first ∙ second in cc) in
     (ap (λ (p : ℕ × ℕ). p.0) e, ap (λ (p : ℕ × ℕ). p.1) e)
 
-pub span-place : (f : List ℕ) (i start end : ℕ) → IsOk (object_at f i) → span_of f i ≡ Ok (start, end) → place_of f i ≡ start
-span-place f i start end reads span =
+pub span-offset : (f : List ℕ) (i start end : ℕ) → IsOk (object_at f i) → span_of f i ≡ Ok (start, end) → place_of f i ≡ start
+span-offset f i start end reads span =
     let starts = span-starts f i reads in
     (same_span f i (place_of f i) starts.0 start end starts.1 span).0
 
 pub Adjoins-follows : (f : List ℕ) (i : ℕ) → Follows f i → ((start end : ℕ) → suc i ≡ (trailer_of f).count → span_of f i ≡ Ok (start, end) → end ≡ (trailer_of f).table) → Adjoins f i
 Adjoins-follows f zero follows last = record {
-  first = λ start end at span. (same_span f zero start end follows.place follows.end span follows.span).0 ∙ follows.before;
+  first = λ start end at span. (same_span f zero start end follows.offset follows.end span follows.span).0 ∙ follows.before;
   next = λ before start middle begin end at first span. absurd (omega arith);
   last = last;
 }
@@ -140,18 +140,18 @@ Adjoins-follows f (suc i) follows last = record {
   next = λ before start middle begin end at first span.
       let is : before ≡ i = omega arith in
       let first_here : span_of f i ≡ Ok (start, middle) = subst (λ (k : ℕ). span_of f k ≡ Ok (start, middle)) is first in
-      let here = (same_span f (suc i) begin end follows.place follows.end span follows.span).0 in
-      let there = (same_span f i start middle follows.before.0 follows.place first_here follows.before.1).1 in
+      let here = (same_span f (suc i) begin end follows.offset follows.end span follows.span).0 in
+      let there = (same_span f i start middle follows.before.0 follows.offset first_here follows.before.1).1 in
       here ∙ sym there;
   last = last;
 }
 
 -- an object that obeys rule 0 has valid references
-pub IsWellRead-refers : (f : List ℕ) (i : ℕ) (held : Held) → what_holds f i ≡ Ok held → IsWellRead f i → RefersWell f held
+pub IsWellRead-refers : (f : List ℕ) (i : ℕ) (held : Content) → what_holds f i ≡ Ok held → IsWellRead f i → RefersWell f held
 IsWellRead-refers f i held reads read =
     let here = read.holds.reads in
     let same : read.held ≡ held = cc in
-    subst (λ (h : Held). RefersWell f h) same (record { numbers = read.numbers; texts = read.texts })
+    subst (λ (h : Content). RefersWell f h) same (record { numbers = read.numbers; texts = read.texts })
 
 pub unread : (f : List ℕ) (i : ℕ) (fault : ObjectFault) → what_holds f i ≡ Err fault → ¬ IsWellRead f i
 unread f i fault fails read =

@@ -5,8 +5,8 @@ pub mod Entries
 pub mod WalkTrees
 pub mod InOrder
 pub mod Forced
-pub mod KeptPlaces
-pub mod PlaceRules
+pub mod KeptPositions
+pub mod PositionRules
 pub mod FileRules
 pub mod Followed
 mod Rows

@@ -3,7 +3,7 @@ use Rattle.std.proofs.Common.{◌≡◌, ℕ, suc, ◌+◌, ◌*◌, ◌<◌, �
 use Rattle.std.specs.List.{concat}
 use Rattle.std.proofs.lemmas.List.{drop_at, drop-drop, drop_all, length-take-le, take_rest, get_or-drop, drop_more}
 use Rattle.byteorder.specs.Endian.{big_number, big_bytes}
-use Rattle.plist_object.specs.Objects.{numbers, Held, ◌>>=◌, IsHeld, object_in}
+use Rattle.plist_object.specs.Objects.{numbers, Content, ◌>>=◌, IsContent, object_in}
 use Rattle.plist_object.specs.Files.{starts}
 use Rattle.std.proofs.lemmas.Bool.{and_parts}
 use Rattle.plist_object.specs.declared.object.ObjectFault.{ObjectFault}
@@ -18,11 +18,11 @@ use Rattle.plist_object.specs.Heads.{BeginsCanonically, IsCounted}
 use Rattle.plist_object.proofs.CanonicalHeads.{shortest_iff}
 use Rattle.plist_object.specs.Spelling.{least_width}
 use Rattle.plist_object.proofs.SameOctets.{big_bytes-big_number, AreOctets-drop}
-use Rattle.plist_engine.specs.Canonical.{trailer_octets}
+use Rattle.plist_write.specs.Canonical.{trailer_octets}
 
 -- the piece is in the bytes at this offset
 abbrev pub StandsAt : List ℕ → ℕ → List ℕ → Type 0
-StandsAt octets place piece = (behind : List ℕ) × (drop place octets ≡ piece ++ behind)
+StandsAt octets offset piece = (behind : List ℕ) × (drop offset octets ≡ piece ++ behind)
 
 -- each object ends at the edge where the next one begins
 abbrev pub Touch : (ℕ → ℕ) → List (List ℕ) → Type 0
@@ -44,8 +44,8 @@ numbers-starts w octets edge (o ∷ os) entries touch =
     let first : big_number w octets ≡ edge 0 = rw none at (entries 0 (omega arith)) in
     let next : edge 1 ≡ edge 0 + length o = touch 0 (omega arith) in
     let entry : (i : ℕ) → i < length os → big_number w (drop (i * w) (drop w octets)) ≡ edge (suc i) = λ i h.
-    let place : w + i * w ≡ suc i * w = omega arith in
-    ap (big_number w) (drop-drop (i * w) w octets ∙ ap (λ (n : ℕ). drop n octets) place) ∙ entries (suc i) (omega arith) in
+    let offset : w + i * w ≡ suc i * w = omega arith in
+    ap (big_number w) (drop-drop (i * w) w octets ∙ ap (λ (n : ℕ). drop n octets) offset) ∙ entries (suc i) (omega arith) in
     let others = numbers-starts w (drop w octets) (λ i. edge (suc i)) os entry (λ i h. touch (suc i) (omega arith)) in
     rw (first, others, next) refl
 
@@ -68,11 +68,11 @@ unfolding octets_at
 is_placed f i octets h = placed_by_test f i octets _ refl h
 
 -- decoding the whole implies decoding the part
-reads_whole : (read : Result (Held × List ℕ) ObjectFault) (held : Held) → (read >>= λ parts. Ok parts.0) ≡ Ok held → IsOk read
+reads_whole : (read : Result (Content × List ℕ) ObjectFault) (held : Content) → (read >>= λ parts. Ok parts.0) ≡ Ok held → IsOk read
 reads_whole (Ok parts) held h = refl
 reads_whole (Err e) held h = absurd cc
 
-reads_object : (f : List ℕ) (i : ℕ) (held : Held) → what_holds f i ≡ Ok held → IsOk (object_at f i)
+reads_object : (f : List ℕ) (i : ℕ) (held : Content) → what_holds f i ≡ Ok held → IsOk (object_at f i)
 unfolding what_holds
 reads_object f i held h = reads_whole (object_at f i) held h
 
@@ -115,7 +115,7 @@ occupies_shortest f i table x =
     }
 
 -- an object in its canonical encoding occupies that encoding
-pub occupies : (f : List ℕ) (i : ℕ) (held : Held) → (trailer_of f).table ≤ length f → Holds f i held → IsSpelledCanonically f i → Occupies f i (spelling_of (trailer_of f).reference_width held)
+pub occupies : (f : List ℕ) (i : ℕ) (held : Content) → (trailer_of f).table ≤ length f → Holds f i held → IsSpelledCanonically f i → Occupies f i (spelling_of (trailer_of f).reference_width held)
 occupies f i held table holds canonically =
     let x = canonically (reads_object f i held holds.reads) in
     let same : x.held ≡ held = let other = held-shortest f i x in cc (other, holds.reads) in
@@ -124,44 +124,44 @@ occupies f i held table holds canonically =
 -- Objects that begin like their canonical encoding.
 
 -- the bytes from an object on, as they were decoded
-record AreParts (f : List ℕ) (i : ℕ) (held : Held) : Type 0 where
+record AreParts (f : List ℕ) (i : ℕ) (held : Content) : Type 0 where
   octets : List ℕ
   behind : List ℕ
   stands : octets_at f i ≡ Ok octets
   reads : object_in (trailer_of f).reference_width octets ≡ Ok (held, behind)
 
-abbrev held_first : Held × List ℕ → Result Held ObjectFault
+abbrev held_first : Content × List ℕ → Result Content ObjectFault
 held_first read = Ok read.0
 
-abbrev read_pair : Held → List ℕ → Result (Held × List ℕ) ObjectFault
+abbrev read_pair : Content → List ℕ → Result (Content × List ℕ) ObjectFault
 read_pair held behind = Ok (held, behind)
 
-object_parts : (f : List ℕ) (i : ℕ) (held : Held) (octets : List ℕ) (read : Result (Held × List ℕ) ObjectFault) → octets_at f i ≡ Ok octets → object_in (trailer_of f).reference_width octets ≡ read → (read >>= held_first) ≡ Ok held → AreParts f i held
+object_parts : (f : List ℕ) (i : ℕ) (held : Content) (octets : List ℕ) (read : Result (Content × List ℕ) ObjectFault) → octets_at f i ≡ Ok octets → object_in (trailer_of f).reference_width octets ≡ read → (read >>= held_first) ≡ Ok held → AreParts f i held
 object_parts f i held octets (Ok read) stands reads e =
     let same : read.0 ≡ held = cc in
-    record { octets = octets; behind = read.1; stands = stands; reads = reads ∙ ap (λ (h : Held). read_pair h read.1) same }
+    record { octets = octets; behind = read.1; stands = stands; reads = reads ∙ ap (λ (h : Content). read_pair h read.1) same }
 object_parts f i held octets (Err fault) stands reads e = absurd (let no : Err fault ≡ Ok held = e in cc)
 
-octets_parts : (f : List ℕ) (i : ℕ) (held : Held) (octets : Result (List ℕ) ObjectFault) → octets_at f i ≡ octets → ((octets >>= λ xs. object_in (trailer_of f).reference_width xs) >>= held_first) ≡ Ok held → AreParts f i held
+octets_parts : (f : List ℕ) (i : ℕ) (held : Content) (octets : Result (List ℕ) ObjectFault) → octets_at f i ≡ octets → ((octets >>= λ xs. object_in (trailer_of f).reference_width xs) >>= held_first) ≡ Ok held → AreParts f i held
 octets_parts f i held (Ok octets) stands e =
     object_parts f i held octets (object_in (trailer_of f).reference_width octets) stands refl e
 octets_parts f i held (Err fault) stands e = absurd (let no : Err fault ≡ Ok held = e in cc)
 
-are_parts : (f : List ℕ) (i : ℕ) (held : Held) → what_holds f i ≡ Ok held → AreParts f i held
+are_parts : (f : List ℕ) (i : ℕ) (held : Content) → what_holds f i ≡ Ok held → AreParts f i held
 unfolding what_holds object_at
 are_parts f i held reads = octets_parts f i held (octets_at f i) refl reads
 
-pub Holds-placed : (f : List ℕ) (i : ℕ) (held : Held) → Holds f i held → place_of f i < (trailer_of f).table
+pub Holds-placed : (f : List ℕ) (i : ℕ) (held : Content) → Holds f i held → place_of f i < (trailer_of f).table
 Holds-placed f i held holds =
     let x = are_parts f i held holds.reads in
     (is_placed f i x.octets x.stands).before
 
 -- an object is in its shortest encoding if and only if it begins canonically
-pub begins-shortest : (f : List ℕ) (i place : ℕ) (objects : List ℕ) (held : Held) → Holds f i held → IsHeld held → IsCounted held → place_of f i ≡ place → objects ≡ take (trailer_of f).table f → AreOctets (take (length objects - place) (drop place objects)) → BeginsCanonically held (take (length objects - place) (drop place objects)) ↔ IsShortest f i
-begins-shortest f i place objects held holds valid counted starts is are_octets =
+pub begins-shortest : (f : List ℕ) (i offset : ℕ) (objects : List ℕ) (held : Content) → Holds f i held → IsContent held → IsCounted held → place_of f i ≡ offset → objects ≡ take (trailer_of f).table f → AreOctets (take (length objects - offset) (drop offset objects)) → BeginsCanonically held (take (length objects - offset) (drop offset objects)) ↔ IsShortest f i
+begins-shortest f i offset objects held holds valid counted starts is are_octets =
     let x = are_parts f i held holds.reads in
     let at = is_placed f i x.octets x.stands in
-    let same : take (length objects - place) (drop place objects) ≡ x.octets = take_rest objects place ∙ ap (λ (xs : List ℕ). drop place xs) is ∙ ap (λ (n : ℕ). drop n (take (trailer_of f).table f)) (sym starts) ∙ at.stands in
+    let same : take (length objects - offset) (drop offset objects) ≡ x.octets = take_rest objects offset ∙ ap (λ (xs : List ℕ). drop offset xs) is ∙ ap (λ (n : ℕ). drop n (take (trailer_of f).table f)) (sym starts) ∙ at.stands in
     let both = shortest_iff f i x.octets held x.behind x.stands x.reads valid counted (subst AreOctets same are_octets) in (
       λ begins. both.0 (subst (λ (xs : List ℕ). BeginsCanonically held xs) same begins),
       λ shortest. subst (λ (xs : List ℕ). BeginsCanonically held xs) (sym same) (both.1 shortest),
@@ -177,8 +177,8 @@ table-within f trailed =
     first_part x.table (x.count * x.offset_width) (length f) trailed.ends
 
 -- an object begins before the offset table
-pub Holds-inside : (f : List ℕ) (i place : ℕ) (objects : List ℕ) (held : Held) → IsTrailer (length f) (trailer_of f) → Holds f i held → place_of f i ≡ place → objects ≡ take (trailer_of f).table f → place ≤ length objects
-Holds-inside f i place objects held trailed holds starts is =
+pub Holds-inside : (f : List ℕ) (i offset : ℕ) (objects : List ℕ) (held : Content) → IsTrailer (length f) (trailer_of f) → Holds f i held → place_of f i ≡ offset → objects ≡ take (trailer_of f).table f → offset ≤ length objects
+Holds-inside f i offset objects held trailed holds starts is =
     let x = trailer_of f in
     let placed = Holds-placed f i held holds in
     let long : length objects ≡ x.table = ap length is ∙ length-take-le x.table f (table-within f trailed) in
@@ -187,25 +187,25 @@ Holds-inside f i place objects held trailed holds starts is =
 -- The trailer of a file that is plain and has the least widths.
 
 -- 32 bytes are the concatenation of their fields
-join_trailer : (e zeros : List ℕ) (w r : ℕ) (count top place : List ℕ) → length e ≡ 32 → take 6 e ≡ zeros → get_or e 6 0 ≡ w → get_or e 7 0 ≡ r → take 8 (drop 8 e) ≡ count → take 8 (drop 16 e) ≡ top → take 8 (drop 24 e) ≡ place → e ≡ zeros ++ (w ∷ r ∷ (count ++ (top ++ place)))
-join_trailer e zeros w r count top place long slack width reference_width counts tops places =
+join_trailer : (e zeros : List ℕ) (w r : ℕ) (count top offset : List ℕ) → length e ≡ 32 → take 6 e ≡ zeros → get_or e 6 0 ≡ w → get_or e 7 0 ≡ r → take 8 (drop 8 e) ≡ count → take 8 (drop 16 e) ≡ top → take 8 (drop 24 e) ≡ offset → e ≡ zeros ++ (w ∷ r ∷ (count ++ (top ++ offset)))
+join_trailer e zeros w r count top offset long slack width reference_width counts tops places =
     let seventh : drop 6 e ≡ w ∷ drop 7 e = drop_more e 6 0 (omega arith) ∙ ap (λ (x : ℕ). x ∷ drop 7 e) width in
     let eighth : drop 7 e ≡ r ∷ drop 8 e = drop_more e 7 0 (omega arith) ∙ ap (λ (x : ℕ). x ∷ drop 8 e) reference_width in
-    let third : drop 24 e ≡ place = sym (take_all 8 (drop 24 e) (omega (arith, length-drop 24 e))) ∙ places in
-    let second : drop 16 e ≡ top ++ place = sym (take-append-drop 8 (drop 16 e)) ∙ ap (λ (xs : List ℕ). xs ++ drop 8 (drop 16 e)) tops ∙ ap (λ (xs : List ℕ). top ++ xs) (drop-drop 8 16 e ∙ third) in
-    let first : drop 8 e ≡ count ++ (top ++ place) = sym (take-append-drop 8 (drop 8 e)) ∙ ap (λ (xs : List ℕ). xs ++ drop 8 (drop 8 e)) counts ∙ ap (λ (xs : List ℕ). count ++ xs) (drop-drop 8 8 e ∙ second) in
+    let third : drop 24 e ≡ offset = sym (take_all 8 (drop 24 e) (omega (arith, length-drop 24 e))) ∙ places in
+    let second : drop 16 e ≡ top ++ offset = sym (take-append-drop 8 (drop 16 e)) ∙ ap (λ (xs : List ℕ). xs ++ drop 8 (drop 16 e)) tops ∙ ap (λ (xs : List ℕ). top ++ xs) (drop-drop 8 16 e ∙ third) in
+    let first : drop 8 e ≡ count ++ (top ++ offset) = sym (take-append-drop 8 (drop 8 e)) ∙ ap (λ (xs : List ℕ). xs ++ drop 8 (drop 8 e)) counts ∙ ap (λ (xs : List ℕ). count ++ xs) (drop-drop 8 8 e ∙ second) in
     sym (take-append-drop 6 e) ∙ ap (λ (xs : List ℕ). xs ++ drop 6 e) slack ∙ ap (λ (xs : List ℕ). zeros ++ xs) (seventh ∙ ap (λ (xs : List ℕ). w ∷ xs) (eighth ∙ ap (λ (xs : List ℕ). r ∷ xs) first))
 
 module _ (f : List ℕ) (octets : AreOctets f) (long : 32 ≤ length f) where
   ended : (back at : ℕ) → back + at ≡ 32 → drop at (drop (length f - 32) f) ≡ drop (length f - back) f
   ended back at is =
-      let place : length f - 32 + at ≡ length f - back = omega arith in
-      drop-drop at (length f - 32) f ∙ ap (λ (n : ℕ). drop n f) place
+      let offset : length f - 32 + at ≡ length f - back = omega arith in
+      drop-drop at (length f - 32) f ∙ ap (λ (n : ℕ). drop n f) offset
 
   octet_at : (back at : ℕ) → back + at ≡ 32 → get_or (drop (length f - 32) f) at 0 ≡ slice_index f (length f - back)
   octet_at back at is =
-      let place : length f - 32 + at ≡ length f - back = omega arith in
-      get_or-drop (length f - 32) f at 0 ∙ ap (slice_index f) place
+      let offset : length f - 32 + at ≡ length f - back = omega arith in
+      get_or-drop (length f - 32) f at 0 ∙ ap (slice_index f) offset
 
   number_at : (back at : ℕ) → back + at ≡ 32 → 8 ≤ back → take 8 (drop at (drop (length f - 32) f)) ≡ big_bytes 8 (number_before_end back f)
   number_at back at is enough =

@@ -12,15 +12,15 @@ use Rattle.plist_canon.specs.declared.weights.Weight.{Weight}
 use Rattle.plist_canon.specs.declared.preorder.Frame.{Frame}
 use Rattle.plist_canon.specs.Weights.{container, weight_of, Weighs, AreWeights}
 use Rattle.plist_canon.specs.Preorders.{Group, grouped, frame_group, path_groups, IsNoneSeen, groups_of}
-use Rattle.plist_canon.specs.Steps.{HasVisited, Passes, GoesOn, GroupGoesOn, FrameGoesOn, HasVisitedFirst, Awaits, SeenInTurn, Walked, WalkedAll, WalksWithinLimits}
+use Rattle.plist_canon.specs.Steps.{HasVisited, SkipsScalar, GoesOn, GroupGoesOn, FrameGoesOn, HasVisitedFirst, Awaits, SeenInTurn, Walked, WalkedAll, WalksWithinLimits}
 use Rattle.plist_canon.proofs.Visiting.{Weighs-scalar, scalar-Weighs, IsWalking-start, IsWalking-passed, IsWalking-seen, IsWalking-done, IsWalking-other, AreWeights-more, length-more}
 use Rattle.plist_canon.proofs.Spending.{HasLeft-passed, HasLeft-popped, HasLeft-parted, HasLeft-entered, HasLeft-start, HasLeft-end}
 use Rattle.std.specs.Option.{is_some}
 use Rattle.plist_object.specs.Layout.{trailer_of}
-use Rattle.plist_object.specs.Objects.{Held}
+use Rattle.plist_object.specs.Objects.{Content}
 use Rattle.plist_canon.specs.Rules.{IsBroken, breaks_limits}
 use Rattle.plist_canon.specs.declared.preorder.Walk.{Walk}
-use Rattle.plist_canon.specs.Remaining.{HasLeft, Takes}
+use Rattle.plist_canon.specs.Remaining.{HasLeft, TakesLeft}
 use Rattle.plist_canon.proofs.WalkTrees.{value_of_walk}
 
 pub path_groups-push : (frames : List Frame) (frame : Frame) → path_groups (frames ++ (frame ∷ [])) ≡ frame_group frame ∷ path_groups frames
@@ -76,7 +76,7 @@ module _ (frames : List Frame) (count : ℕ) (frame : Frame) (counted : length f
       })
 
 module _ (weights : List Weight) (owner levels i : ℕ) (refs : List ℕ) (outer : List Group) (before after : Option Budget) where
-  pub HasVisited-passed : Passes weights levels i before after → GoesOn weights (grouped owner levels (i ∷ refs) ∷ outer) before (grouped owner levels refs ∷ outer) after
+  pub HasVisited-passed : SkipsScalar weights levels i before after → GoesOn weights (grouped owner levels (i ∷ refs) ∷ outer) before (grouped owner levels refs ∷ outer) after
   HasVisited-passed passes f weighed stands =
       let weighs = weighed i passes.listed in
       let scalar = Weighs-scalar f i (slice_index_or weights i container) weighs passes.is_scalar in
@@ -91,7 +91,7 @@ module _ (weights : List Weight) (first : Group) (owner levels : ℕ) (refs : Li
   GoesOn-here below outer f weighed stands =
       subst (λ (rs : List ℕ). HasVisited f (length weights) here (grouped owner levels rs ∷ outer)) (drop_more refs k 0 below) (to outer f weighed stands)
 
-  pub GoesOn-past : (after : Option Budget) → k < length refs → Passes weights levels (slice_index refs k) here after → GroupGoesOn weights first before (grouped owner levels (drop (k + 1) refs)) after
+  pub GoesOn-past : (after : Option Budget) → k < length refs → SkipsScalar weights levels (slice_index refs k) here after → GroupGoesOn weights first before (grouped owner levels (drop (k + 1) refs)) after
   GoesOn-past after below passes outer f weighed stands =
       HasVisited-passed weights owner levels (slice_index refs k) (drop (k + 1) refs) outer here after passes f weighed (GoesOn-here below outer f weighed stands)
 
@@ -155,13 +155,13 @@ SeenInTurn-none f walk whole weights_are path_is left_is nodes_are payload_is =
     }
 
 -- after one more visit
-pub SeenInTurn-more : (f : List ℕ) (i number levels : ℕ) (held : Held) (old new : Walk) (weight : Weight) (left : Option Budget) (groups : List Group)
-    → Holds f i held → SeenInTurn f i old → weight ≡ weight_of held → Awaits f (length old.weights.items) levels left groups → Takes levels weight left new.left
+pub SeenInTurn-more : (f : List ℕ) (i number levels : ℕ) (held : Content) (old new : Walk) (weight : Weight) (left : Option Budget) (groups : List Group)
+    → Holds f i held → SeenInTurn f i old → weight ≡ weight_of held → Awaits f (length old.weights.items) levels left groups → TakesLeft levels weight left new.left
     → new.weights.items ≡ old.weights.items ++ (weight ∷ []) → number ≡ length old.weights.items → path_groups new.path.items ≡ groups_of number (levels - 1) held ++ groups → SeenInTurn f (suc i) new
 SeenInTurn-more f i number levels held old new weight left groups holds seen is awaits takes pushed number_is path_is =
     let many = length old.weights.items in
     let here : Holds f many held = subst (λ (n : ℕ). Holds f n held) (sym seen.counted) holds in
-    let entered = awaits held new.left here (subst (λ (w : Weight). Takes levels w left new.left) is takes) in
+    let entered = awaits held new.left here (subst (λ (w : Weight). TakesLeft levels w left new.left) is takes) in
     let weighs : Weighs f i weight = record { held = held; holds = holds; is = is } in
     let long : length new.weights.items ≡ suc many = length-more old.weights.items new.weights.items many weight pushed refl ∙ add-one many in
     let groups_are : path_groups new.path.items ≡ groups_of many (levels - 1) held ++ groups = rw (← number_is) path_is in

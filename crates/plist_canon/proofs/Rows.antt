@@ -8,11 +8,11 @@ use Rattle.plist_value.specs.Limits.{Fits}
 use Rattle.plist_value.specs.Rows.{swapped}
 use Rattle.plist_object.specs.declared.object.ObjectFault.{ObjectFault}
 use Rattle.plist_object.specs.Layout.{header, IsLaid}
-use Rattle.plist_object.specs.Objects.{Held, holds_scalar, holds_list, object_in, count_spelled, count_of_content, content, simple_object, ascii_object, list_object, table_object, marked_object}
+use Rattle.plist_object.specs.Objects.{Content, holds_scalar, holds_list, object_in, count_spelled, count_of_content, content, simple_object, ascii_object, list_object, table_object, marked_object}
 use Rattle.plist_object.specs.Places.{octets_at, object_at, what_holds, span_of, Holds}
 use Rattle.plist_object.specs.Shortest.{spelling_of, IsShortest}
 use Rattle.plist_object.proofs.Uniqueness.{same_held}
-use Rattle.plist_engine.specs.Canonical.{canon}
+use Rattle.plist_write.specs.Canonical.{canon}
 use Rattle.plist_object.specs.References.{references_of}
 use Rattle.plist_canon.specs.Rules.{ReadsWithinLimits, FollowsRules, HasPlainTrailer, HasLeastWidths, Adjoins, IsSpelledCanonically, HasAscendingKeys, IsNoRepeat, IsNumberedInPreorder, held_by, begins, goes_on, TurnsAt, LeavesOver}
 use Rattle.plist_canon.proofs.InOrder.{AreBelow-none, AreBelow-new, new_or_known}
@@ -54,9 +54,9 @@ same_head m n ms ns e = cc
 abbrev stray_file : List ℕ
 stray_file = header ++ (161 ∷ 1 ∷ 8 ∷ end_of 1 10)
 
-numbers_below : (held : Held) → held ≡ holds_list (1 ∷ []) → AllByRecursion (λ reference. reference < 1) (references_of held) → ⊥
+numbers_below : (held : Content) → held ≡ holds_list (1 ∷ []) → AllByRecursion (λ reference. reference < 1) (references_of held) → ⊥
 numbers_below held e numbers =
-    let below = subst (λ (held : Held). AllByRecursion (λ reference. reference < 1) (references_of held)) e numbers in
+    let below = subst (λ (held : Content). AllByRecursion (λ reference. reference < 1) (references_of held)) e numbers in
     let first : 1 < 1 = below.0 in
     omega arith
 
@@ -96,7 +96,7 @@ long_head_file = header ++ (95 ∷ 16 ∷ 1 ∷ 97 ∷ 8 ∷ end_of 1 12)
 same_octets : (xs ys : List ℕ) → ◌≡◌ {A = Result (List ℕ) ObjectFault} (Ok xs) (Ok ys) → xs ≡ ys
 same_octets xs ys e = cc
 
-same_read : (a b : Held) (xs ys : List ℕ) → ◌≡◌ {A = Result (Held × List ℕ) ObjectFault} (Ok (a, xs)) (Ok (b, ys)) → ◌≡◌ {A = Held × List ℕ} (a, xs) (b, ys)
+same_read : (a b : Content) (xs ys : List ℕ) → ◌≡◌ {A = Result (Content × List ℕ) ObjectFault} (Ok (a, xs)) (Ok (b, ys)) → ◌≡◌ {A = Content × List ℕ} (a, xs) (b, ys)
 same_read a b xs ys e = cc
 
 not_shortest : IsShortest long_head_file 0 → ⊥
@@ -105,7 +105,7 @@ not_shortest x =
     let octets = same_octets (95 ∷ 16 ∷ 1 ∷ 97 ∷ []) x.octets x.stands in
     let read = ap (object_in 1) octets ∙ x.reads in
     let both = same_read (holds_scalar (text (97 ∷ []))) x.held [] x.behind read in
-    let spelled = octets ∙ x.spelled ∙ ap (λ (p : Held × List ℕ). spelling_of 1 p.0 ++ p.1) (sym both) in
+    let spelled = octets ∙ x.spelled ∙ ap (λ (p : Content × List ℕ). spelling_of 1 p.0 ++ p.1) (sym both) in
     let first = same_head 95 81 (16 ∷ 1 ∷ 97 ∷ []) (97 ∷ []) spelled in
     omega arith
 

@@ -5,7 +5,7 @@ use Rattle.plist_value.specs.Plist.{AreOctets, Scalar, Plist, scalar, list, tabl
 use Rattle.plist_value.specs.Limits.{Fits, nodes, depth, payload, payload_of_scalar, nodes_of_items, depth_of_items, payload_of_items, nodes_of_pairs, depth_of_pairs, payload_of_pairs}
 use Rattle.plist_value.specs.declared.TheConstants.{MAX_NODES, MAX_DEPTH, MAX_PAYLOAD}
 use Rattle.plist_canon.specs.declared.weights.TheConstants.{MOST_KEPT}
-use Rattle.plist_object.specs.Objects.{IsHeld, Held, holds_scalar, holds_list, holds_table}
+use Rattle.plist_object.specs.Objects.{IsContent, Content, holds_scalar, holds_list, holds_table}
 use Rattle.plist_object.specs.Places.{Holds, HoldsScalar}
 use Rattle.plist_object.specs.Spelled.{Spells, SpellItems}
 use Rattle.plist_object.proofs.Uniqueness.{same_held}
@@ -16,7 +16,7 @@ use Rattle.plist_canon.specs.Rules.{HasAscendingKeys}
 use Rattle.plist_canon.specs.declared.weights.Weight.{Weight}
 use Rattle.plist_canon.specs.Weights.{weight_of, payload_of_weight, Weighs}
 use Rattle.plist_canon.specs.Preorders.{Group, grouped, groups_of}
-use Rattle.plist_canon.specs.Remaining.{Referred, AllReferred, nodes_referred, payload_referred, AreWithin, HasLeft, Takes}
+use Rattle.plist_canon.specs.Remaining.{Referred, AllReferred, nodes_referred, payload_referred, AreWithinLimits, HasLeft, TakesLeft}
 use Rattle.plist_canon.proofs.Entries.{put_texts}
 use Rattle.plist_canon.proofs.Visiting.{Weighs-held}
 use Rattle.plist_canon.proofs.TableParts.{some_nodes, table_parts}
@@ -104,7 +104,7 @@ scalar_costs f i weight s weighs holds most v spells =
     let same : payload_of_scalar s ≡ payload_of_weight weight = omega arith in
     by_scalar f i s (ScalarCosts weight) holds (record { nodes_are = refl; payload_is = same; depth_is = refl }) v spells
 
-held_least : (f : List ℕ) (i : ℕ) (held : Held) → Holds f i held → (v : Plist) → Spells f i v → payload_of_weight (weight_of held) ≤ payload v
+held_least : (f : List ℕ) (i : ℕ) (held : Content) → Holds f i held → (v : Plist) → Spells f i v → payload_of_weight (weight_of held) ≤ payload v
 held_least f i (holds_scalar s) holds v spells =
     by_scalar f i s (λ v. payload_of_weight (weight_of (holds_scalar s)) ≤ payload v) holds (omega arith) v spells
 held_least f i _ holds v spells = omega arith
@@ -119,8 +119,8 @@ pub record Step (f : List ℕ) (groups : List Group) (referred : AllReferred f g
   pub later : AllReferred f others
   pub nodes_are : nodes_referred f groups referred ≡ spent + nodes_referred f others later
   pub payload_is : payload_referred f groups referred ≡ payload_spent + payload_referred f others later
-  pub within : AreWithin f groups referred → AreWithin f others later
-  pub back : AreWithin f others later → AreWithin f groups referred
+  pub within : AreWithinLimits f groups referred → AreWithinLimits f others later
+  pub back : AreWithinLimits f others later → AreWithinLimits f groups referred
 
 spent_step : (f : List ℕ) (groups others : List Group) (before after : Budget) (n p : ℕ) → Spends before n p after → (p ≤ MAX_PAYLOAD → (referred : AllReferred f groups) → Step f groups referred others n p) → HasLeft f groups (Some before) → HasLeft f others (Some after)
 spent_step f groups others before after n p spends step has_left v valid spells =
@@ -168,7 +168,7 @@ module _ (f : List ℕ) (owner levels i : ℕ) (refs : List ℕ) (outer : List G
       over (omega arith) (omega arith) (omega arith)
 
   -- the first object is counted
-  taken : (others : List Group) (before after : Option Budget) → (1 ≤ levels → payload_of_weight weight ≤ MAX_PAYLOAD → (referred : AllReferred f (grouped owner levels (i ∷ refs) ∷ outer)) → Step f (grouped owner levels (i ∷ refs) ∷ outer) referred others 1 (payload_of_weight weight)) → Takes levels weight before after → HasLeft f (grouped owner levels (i ∷ refs) ∷ outer) before → HasLeft f others after
+  taken : (others : List Group) (before after : Option Budget) → (1 ≤ levels → payload_of_weight weight ≤ MAX_PAYLOAD → (referred : AllReferred f (grouped owner levels (i ∷ refs) ∷ outer)) → Step f (grouped owner levels (i ∷ refs) ∷ outer) referred others 1 (payload_of_weight weight)) → TakesLeft levels weight before after → HasLeft f (grouped owner levels (i ∷ refs) ∷ outer) before → HasLeft f others after
   taken others None after step takes has_left = subst (λ (left : Option Budget). HasLeft f others left) (sym takes) has_left
   taken others (Some before) None step takes has_left = passes_limit before takes has_left
   taken others (Some before) (Some after) step takes has_left =
@@ -195,7 +195,7 @@ module _ (f : List ℕ) (owner levels i : ℕ) (refs : List ℕ) (outer : List G
       }
 
   -- a reference to a scalar is skipped
-  pub HasLeft-passed : (before after : Option Budget) → HoldsScalar f i → Takes levels weight before after → HasLeft f (grouped owner levels (i ∷ refs) ∷ outer) before → HasLeft f (grouped owner levels refs ∷ outer) after
+  pub HasLeft-passed : (before after : Option Budget) → HoldsScalar f i → TakesLeft levels weight before after → HasLeft f (grouped owner levels (i ∷ refs) ∷ outer) before → HasLeft f (grouped owner levels refs ∷ outer) after
   HasLeft-passed before after held = taken (grouped owner levels refs ∷ outer) before after (scalar_step held)
 
 pub HasLeft-popped : (f : List ℕ) (owner levels : ℕ) (outer : List Group) (left : Option Budget) → HasLeft f (grouped owner levels [] ∷ outer) left → HasLeft f outer left
@@ -276,7 +276,7 @@ module _ (f : List ℕ) (owner levels i : ℕ) (outer : List Group) (weight : We
   abbrev before_it : List Group
   before_it = grouped owner levels (i ∷ []) ∷ outer
 
-  opening : (held : Held) → Holds f i held → IsHeld held → 1 ≤ levels → payload_of_weight weight ≤ MAX_PAYLOAD → (referred : AllReferred f before_it) → Step f before_it referred (groups_of i (levels - 1) held ++ outer) 1 (payload_of_weight weight)
+  opening : (held : Content) → Holds f i held → IsContent held → 1 ≤ levels → payload_of_weight weight ≤ MAX_PAYLOAD → (referred : AllReferred f before_it) → Step f before_it referred (groups_of i (levels - 1) held ++ outer) 1 (payload_of_weight weight)
   opening (holds_scalar s) holds valid some most referred =
       let n = lone_item f i referred.0.items referred.0.valid referred.0.spelled in
       let costs = scalar_costs f i weight s weighs holds most n.value n.spells in
@@ -333,7 +333,7 @@ module _ (f : List ℕ) (owner levels i : ℕ) (outer : List Group) (weight : We
       }
 
   -- the object is visited for the first time
-  pub HasLeft-entered : (octets : AreOctets f) (held : Held) (before after : Option Budget) → Holds f i held → Takes levels weight before after → HasLeft f before_it before → HasLeft f (groups_of i (levels - 1) held ++ outer) after
+  pub HasLeft-entered : (octets : AreOctets f) (held : Content) (before after : Option Budget) → Holds f i held → TakesLeft levels weight before after → HasLeft f before_it before → HasLeft f (groups_of i (levels - 1) held ++ outer) after
   HasLeft-entered octets held before after holds =
       taken f owner levels i [] outer weight weighs (groups_of i (levels - 1) held ++ outer) before after (opening held holds (Holds-held f i held octets holds))
 

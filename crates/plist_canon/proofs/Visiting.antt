@@ -2,7 +2,7 @@
 use Rattle.std.proofs.Common.{◌≡◌, ℕ, suc, ◌+◌, List, [], ◌∷◌, ◌++◌, length, true, sym, ap, subst, ◌∙◌, arith, length-append, inl, inr, ◌<◌, refl, append_assoc}
 use Rattle.std.proofs.lemmas.Bool.{cases_lt, true≢false}
 use Rattle.std.proofs.lemmas.List.{get_or_append_left, get_or_push, append-nil}
-use Rattle.plist_object.specs.Objects.{Held, holds_scalar, holds_table}
+use Rattle.plist_object.specs.Objects.{Content, holds_scalar, holds_table}
 use Rattle.plist_object.specs.Places.{Holds, HoldsScalar}
 use Rattle.plist_object.proofs.Uniqueness.{same_held}
 use Rattle.plist_canon.specs.declared.weights.Weight.{Weight}
@@ -15,10 +15,10 @@ use Rattle.plist_canon.specs.Preorders.{IsWalking, Group, groups_of, references_
 use Rattle.plist_canon.proofs.InOrder.{AreBelow, AreInOrder, AreBelow-none, AreBelow-new, AreBelow-known, new_or_known, AreInOrder-none, AreInOrder-more}
 
 -- the weight is that of the object's content
-pub Weighs-held : (f : List ℕ) (i : ℕ) (weight : Weight) (held : Held) → Weighs f i weight → Holds f i held → weight ≡ weight_of held
+pub Weighs-held : (f : List ℕ) (i : ℕ) (weight : Weight) (held : Content) → Weighs f i weight → Holds f i held → weight ≡ weight_of held
 Weighs-held f i weight held weighs holds = weighs.is ∙ ap weight_of (same_held f i weighs.held held weighs.holds holds)
 
-scalar-holds : (f : List ℕ) (i : ℕ) (held : Held) → Holds f i held → is_scalar_weight (weight_of held) ≡ true → HoldsScalar f i
+scalar-holds : (f : List ℕ) (i : ℕ) (held : Content) → Holds f i held → is_scalar_weight (weight_of held) ≡ true → HoldsScalar f i
 scalar-holds f i (holds_scalar s) holds is = (s, holds)
 scalar-holds f i _ holds is = absurd (true≢false (sym is))
 
@@ -54,7 +54,7 @@ length-more weights pushed number weight is counted =
 
 -- a walk from an object, taken apart
 record Entered (f : List ℕ) (i : ℕ) (entries : List ℕ) : Type 0 where
-  held : Held
+  held : Content
   rest : List ℕ
   holds : Holds f i held
   walks : Walks f (references_of held) rest
@@ -128,7 +128,7 @@ record Rest (f entries refs whole : List ℕ) : Type 0 where
 
 -- the next reference, with its walk
 record Next (f entries : List ℕ) (i : ℕ) (refs whole : List ℕ) : Type 0 where
-  held : Held
+  held : Content
   rest : List ℕ
   others : List ℕ
   holds : Holds f i held
@@ -168,7 +168,7 @@ numbers-held holder [] rest = refl
 numbers-held holder (i ∷ refs) rest = ap (λ xs. i ∷ xs) (numbers-held holder refs rest)
 
 -- the references of an object that is entered precede those that are left
-references-entered : (number levels : ℕ) (held : Held) (outer : List Group) → references_left (groups_of number levels held ++ outer) ≡ held_by number (references_of held) ++ references_left outer
+references-entered : (number levels : ℕ) (held : Content) (outer : List Group) → references_left (groups_of number levels held ++ outer) ≡ held_by number (references_of held) ++ references_left outer
 references-entered number levels (holds_table keys values) outer =
     sym (ap (λ xs. xs ++ references_left outer) (held_by-append number keys values) ∙ append_assoc (held_by number keys) (held_by number values) (references_left outer))
 references-entered number levels _ outer = refl
@@ -179,11 +179,11 @@ numbers-all holder refs = ap numbers (sym (append-nil (held_by holder refs))) �
 ComesTo-rest : (f entries : List ℕ) (left : List Reference) (whole : List ℕ) → ComesTo f entries left → Walk f 0 whole → Rest f entries (numbers left) whole
 ComesTo-rest f entries left whole (begins held holds) walk =
     let e = enter f 0 whole walk in
-    let walks = subst (λ (h : Held). Walks f (references_of h) e.rest) (same_held f 0 e.held held e.holds holds) e.walks in
+    let walks = subst (λ (h : Content). Walks f (references_of h) e.rest) (same_held f 0 e.held held e.holds holds) e.walks in
     record { rest = e.rest; walks = rw numbers-all walks; joined = e.joined }
 ComesTo-rest f entries left whole (goes_on before holder i held later comes order holds) walk =
     let n = next f before i (numbers later) whole (ComesTo-rest f before (reference holder i ∷ later) whole comes walk) in
-    let inner = subst (λ (h : Held). Walks f (references_of h) n.rest) (same_held f i n.held held n.holds holds) n.inner in
+    let inner = subst (λ (h : Content). Walks f (references_of h) n.rest) (same_held f i n.held held n.holds holds) n.inner in
     record {
       rest = n.rest ++ n.others;
       walks = rw numbers-held (Walks-append f (references_of held) (numbers later) n.rest n.others inner n.outer);
@@ -217,7 +217,7 @@ LeavesOver-unnumbered f left numbered =
     let is : numbered.entries ≡ left.entries = r.joined ∙ ap (λ es. left.entries ++ es) (no_entry f r.rest r.walks) ∙ append-nil left.entries in
     left.missed (subst (λ es. Contains es left.object) is ((numbered.all left.object).1 left.over))
 
-pub IsWalking-start : (f : List ℕ) (levels : ℕ) (held : Held) → Holds f 0 held → IsWalking f 1 (references_left (groups_of 0 levels held ++ []))
+pub IsWalking-start : (f : List ℕ) (levels : ℕ) (held : Content) → Holds f 0 held → IsWalking f 1 (references_left (groups_of 0 levels held ++ []))
 IsWalking-start f levels held holds = record {
   entries = 0 ∷ [];
   comes = subst (ComesTo f (0 ∷ [])) (sym (references-entered 0 levels held [] ∙ append-nil (held_by 0 (references_of held)))) (begins held holds);
@@ -250,7 +250,7 @@ module _ (f : List ℕ) (seen : ℕ) where
         breaks_c7 holder (TurnsAt-unnumbered f holder turns) turns
 
   -- a reference to the next object
-  pub IsWalking-seen : (holder : ℕ) (outer : List Group) (levels : ℕ) (held : Held) → IsWalking f seen (reference holder seen ∷ references_left outer) → Holds f seen held → IsWalking f (suc seen) (references_left (groups_of seen levels held ++ outer))
+  pub IsWalking-seen : (holder : ℕ) (outer : List Group) (levels : ℕ) (held : Content) → IsWalking f seen (reference holder seen ∷ references_left outer) → Holds f seen held → IsWalking f (suc seen) (references_left (groups_of seen levels held ++ outer))
   IsWalking-seen holder outer levels held walking holds = record {
     entries = walking.entries ++ (seen ∷ []);
     comes = subst (ComesTo f (walking.entries ++ (seen ∷ []))) (sym (references-entered seen levels held outer)) (goes_on walking.entries holder seen held (references_left outer) walking.comes (inl walking.visited) holds);

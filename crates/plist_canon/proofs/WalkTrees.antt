@@ -1,34 +1,34 @@
--- A walk is that of a value, whose places have the entries as their numbers.
+-- A walk is that of a value, whose positions have the entries as their numbers.
 use Rattle.std.proofs.Common.{◌≡◌, ℕ, suc, ◌+◌, ◌<◌, List, [], ◌∷◌, ◌++◌, length, map, take, drop, get_or, refl, sym, ap, ap₂, subst, ◌∙◌, arith, length-append, take_at, drop_at}
 use Rattle.std.specs.List.{AllByRecursion}
 use Rattle.std.proofs.lemmas.List.{map-append, length-map}
 use Rattle.plist_value.specs.Plist.{Scalar, text, Plist, scalar, list, table, Items, no_items, item, Pairs, AreOctets, IsPlist, AreItems, ArePairs}
 use Rattle.plist_value.specs.Limits.{nodes}
 use Rattle.plist_object.specs.Layout.{trailer_of}
-use Rattle.plist_object.specs.Objects.{Held, holds_scalar, holds_list, holds_table}
+use Rattle.plist_object.specs.Objects.{Content, holds_scalar, holds_list, holds_table}
 use Rattle.plist_object.specs.Places.{Holds, HoldsText}
 use Rattle.plist_object.specs.Spelled.{Spells}
 use Rattle.plist_object.specs.References.{references_of}
 use Rattle.plist_canon.specs.Rules.{keys_of, HoldTexts, IsWellRead, HasAscendingKeys, Walk, visit, Walks, end, step}
-use Rattle.plist_engine.specs.Found.{held_at}
-use Rattle.plist_engine.specs.Sharing.{value_at}
-use Rattle.plist_engine.specs.Tree.{key_texts, preorder, preorder_items, preorder_values, item_places, key_places, value_places}
-use Rattle.plist_engine.proofs.Trees.{length-preorder, length-key_places, OccursAt-all}
-use Rattle.plist_engine.proofs.Sizes.{item_count}
-use Rattle.plist_engine.proofs.Spelled.{Spells-tree}
+use Rattle.plist_write.specs.Found.{held_at}
+use Rattle.plist_write.specs.Sharing.{value_at}
+use Rattle.plist_write.specs.Tree.{key_texts, preorder, preorder_items, preorder_values, item_positions, key_positions, value_positions}
+use Rattle.plist_write.proofs.Trees.{length-preorder, length-key_positions, OccursAt-all}
+use Rattle.plist_write.proofs.Sizes.{item_count}
+use Rattle.plist_write.proofs.Spelled.{Spells-tree}
 use Rattle.plist_object.proofs.Uniqueness.{same_held}
 use Rattle.plist_object.proofs.HeldRanges.{Holds-held}
 use Rattle.plist_canon.proofs.Judges.{texts_of}
-use Rattle.plist_canon.proofs.Entries.{AreNumbers, PlacesHold, AreNumbers-front, AreNumbers-rest, AreNumbers-own, PlacesHold-append, PlacesHold-at, pairs_of, put_texts, key_texts-pairs_of, preorder-pairs_of, places-pairs_of, AreItems-put_texts, ArePairs-pairs_of}
+use Rattle.plist_canon.proofs.Entries.{AreNumbers, PositionsHold, AreNumbers-front, AreNumbers-rest, AreNumbers-own, PositionsHold-append, PositionsHold-at, pairs_of, put_texts, key_texts-pairs_of, preorder-pairs_of, positions-pairs_of, AreItems-put_texts, ArePairs-pairs_of}
 
 -- The walk from object i visits these entries, and they are those of this value: with the entries
--- as numbers, the object of each place contains what is there.
+-- as numbers, the object of each position contains what is there.
 pub record WalkedTree (f : List ℕ) (i : ℕ) (entries : List ℕ) : Type 0 where
   pub value : Plist
   pub valid : IsPlist value
   pub long : length (preorder value) ≡ length entries
   pub top : (number : ℕ → ℕ) (k : ℕ) → AreNumbers number k entries → number k ≡ i
-  pub reads : (number : ℕ → ℕ) (k : ℕ) → AreNumbers number k entries → PlacesHold f number k (preorder value)
+  pub reads : (number : ℕ → ℕ) (k : ℕ) → AreNumbers number k entries → PositionsHold f number k (preorder value)
   pub same_scalar : (s : Scalar) → Holds f i (holds_scalar s) → value ≡ scalar s
 
 -- if a reference points to a scalar, the item in its place is that scalar
@@ -42,8 +42,8 @@ record WalkedItems (f refs entries : List ℕ) : Type 0 where
   items : Items
   valid : AreItems items
   long : length (preorder_items items) ≡ length entries
-  named : (number : ℕ → ℕ) (k : ℕ) → AreNumbers number k entries → map number (item_places k items) ≡ refs
-  reads : (number : ℕ → ℕ) (k : ℕ) → AreNumbers number k entries → PlacesHold f number k (preorder_items items)
+  named : (number : ℕ → ℕ) (k : ℕ) → AreNumbers number k entries → map number (item_positions k items) ≡ refs
+  reads : (number : ℕ → ℕ) (k : ℕ) → AreNumbers number k entries → PositionsHold f number k (preorder_items items)
   same_scalars : SameScalars f refs items
 
 no_items-walked : (f : List ℕ) → WalkedItems f [] []
@@ -71,7 +71,7 @@ item-walked f i refs entries others x xs =
       reads = λ number k h.
           let first = x.reads number k (AreNumbers-front number k entries others h) in
           let later = xs.reads number (k + length (preorder x.value)) (AreNumbers-rest number k (k + length (preorder x.value)) entries others (omega arith) h) in
-          PlacesHold-append f number k (k + length (preorder x.value)) (preorder x.value) (preorder_items xs.items) refl first later;
+          PositionsHold-append f number k (k + length (preorder x.value)) (preorder x.value) (preorder_items xs.items) refl first later;
       same_scalars = (x.same_scalar, xs.same_scalars);
     }
 
@@ -166,12 +166,12 @@ module _ (f : List ℕ) (i : ℕ) (keys values entries : List ℕ) (octets : Are
   length-keys : length (key_texts pairs) ≡ length texts
   length-keys = ap length (key_texts-pairs_of texts others even) ∙ length-map texts _
 
-  named_places : (number : ℕ → ℕ) (k : ℕ) → AreNumbers number k entries → (map number (key_places k pairs) ≡ keys) × (map number (value_places (k + length (key_texts pairs)) pairs) ≡ values)
+  named_places : (number : ℕ → ℕ) (k : ℕ) → AreNumbers number k entries → (map number (key_positions k pairs) ≡ keys) × (map number (value_positions (k + length (key_texts pairs)) pairs) ≡ values)
   named_places number k h =
-      let places = ap (item_places k) split_items.1 ∙ places-pairs_of k texts others even in
-      let all = sym (map-append number (key_places k pairs) (value_places (k + length texts) pairs)) ∙ ap (map number) (sym places) ∙ xs.named number k h in
-      let many = length-map (key_places k pairs) number ∙ length-key_places k pairs ∙ length-keys ∙ length-HoldTexts f keys texts named_texts.1 in
-      let parts = append-parts (map number (key_places k pairs)) (map number (value_places (k + length texts) pairs)) keys values many all in
+      let positions = ap (item_positions k) split_items.1 ∙ positions-pairs_of k texts others even in
+      let all = sym (map-append number (key_positions k pairs) (value_positions (k + length texts) pairs)) ∙ ap (map number) (sym positions) ∙ xs.named number k h in
+      let many = length-map (key_positions k pairs) number ∙ length-key_positions k pairs ∙ length-keys ∙ length-HoldTexts f keys texts named_texts.1 in
+      let parts = append-parts (map number (key_positions k pairs)) (map number (value_positions (k + length texts) pairs)) keys values many all in
       (parts.0, rw length-keys parts.1)
 
   table-walked : WalkedTree f i (i ∷ entries)
@@ -182,15 +182,15 @@ module _ (f : List ℕ) (i : ℕ) (keys values entries : List ℕ) (octets : Are
     top = λ number k h. h.0;
     reads = λ number k h.
         let named = named_places number (suc k) h.1 in
-        (rw (h.0, named.0, named.1) holds, subst (PlacesHold f number (suc k)) below (xs.reads number (suc k) h.1));
+        (rw (h.0, named.0, named.1) holds, subst (PositionsHold f number (suc k)) below (xs.reads number (suc k) h.1));
     same_scalar = λ t other. let same = same_held f i (holds_table keys values) (holds_scalar t) holds other in cc;
   }
 
--- with the entries of the walk as numbers, the object of each place contains what is there
+-- with the entries of the walk as numbers, the object of each position contains what is there
 pub held-walked : (f : List ℕ) (i : ℕ) (entries : List ℕ) (tree : WalkedTree f i entries) (k : ℕ) (v : Plist) → value_at (preorder tree.value) k ≡ v → k < length (preorder tree.value) → Holds f (get_or entries k 0) (held_at (λ j. get_or entries j 0) k v)
 held-walked f i entries tree k v at below =
     let number : ℕ → ℕ = λ j. get_or entries j 0 in
-    rw at at (PlacesHold-at f number 0 k k (preorder tree.value) (tree.reads number 0 (AreNumbers-own entries)) below (omega arith))
+    rw at at (PositionsHold-at f number 0 k k (preorder tree.value) (tree.reads number 0 (AreNumbers-own entries)) below (omega arith))
 
 -- the object encodes the value of its walk
 pub Spells-walked : (f : List ℕ) (i : ℕ) (entries : List ℕ) (tree : WalkedTree f i entries) → Spells f i tree.value
@@ -200,7 +200,7 @@ Spells-walked f i entries tree =
     subst (λ n. Spells f n tree.value) (tree.top number 0 (AreNumbers-own entries)) spells
 
 module _ (f : List ℕ) (octets : AreOctets f) (read : (i : ℕ) → i < (trailer_of f).count → IsWellRead f i) (ascending : (i : ℕ) → i < (trailer_of f).count → HasAscendingKeys f i) where
-  object-walked : (i : ℕ) (held : Held) (entries : List ℕ) → Holds f i held → WalkedItems f (references_of held) entries → WalkedTree f i (i ∷ entries)
+  object-walked : (i : ℕ) (held : Content) (entries : List ℕ) → Holds f i held → WalkedItems f (references_of held) entries → WalkedTree f i (i ∷ entries)
   object-walked i (holds_scalar s) entries holds xs = scalar-walked f i s entries octets holds xs
   object-walked i (holds_list refs) entries holds xs = list-walked f i refs entries holds xs
   object-walked i (holds_table keys values) entries holds xs =

@@ -2,7 +2,7 @@
 use Rattle.std.specs.Prelude.{◌≡◌, ℕ, zero, suc, ◌<◌, nat_lt, if◌then◌else◌, List, Ok, ⊤}
 use Rattle.std.specs.List.{AllByRecursion}
 use Rattle.plist_object.specs.Layout.{trailer_of, IsLayoutFault}
-use Rattle.plist_object.specs.Objects.{Held}
+use Rattle.plist_object.specs.Objects.{Content}
 use Rattle.plist_object.specs.declared.layout.LayoutFault.TheVariants as layout
 use Rattle.plist_object.specs.Places.{span_of, HoldsText}
 use Rattle.plist_object.specs.References.{references_of}
@@ -29,19 +29,19 @@ abbrev pub IsVerdict : List ℕ → Verdict → Type 0
 IsVerdict f verdict.Canonical = FollowsRules f
 IsVerdict f (verdict.Broken rule object) = IsBroken f rule object
 
-abbrev pub number_of : Rule → ℕ
-number_of rules.Readable = 0
-number_of rules.PlainTrailer = 1
-number_of rules.LeastWidths = 2
-number_of rules.Adjoining = 3
-number_of rules.CanonicalEncoding = 4
-number_of rules.AscendingKeys = 5
-number_of rules.DistinctScalars = 6
-number_of rules.Preorder = 7
+abbrev pub rule_number : Rule → ℕ
+rule_number rules.Readable = 0
+rule_number rules.PlainTrailer = 1
+rule_number rules.LeastWidths = 2
+rule_number rules.Adjoining = 3
+rule_number rules.CanonicalEncoding = 4
+rule_number rules.AscendingKeys = 5
+rule_number rules.DistinctScalars = 6
+rule_number rules.Preorder = 7
 
 -- a rule is broken, or memory ran out
 abbrev pub IsFlaw : List ℕ → Flaw → Type 0
-IsFlaw f (flaw.Broken rule object) = IsBroken f (number_of rule) object
+IsFlaw f (flaw.Broken rule object) = IsBroken f (rule_number rule) object
 IsFlaw f flaw.NoMemory = ⊤
 
 -- The flaw to report of two: out of memory if either is, else the one at the earlier object, and
@@ -61,23 +61,23 @@ abbrev pub AllAscend : List ℕ → Type 0
 AllAscend f = (i : ℕ) → i < (trailer_of f).count → HasAscendingKeys f i
 
 -- the references are numbers of objects, and those to keys point to strings
-pub record RefersWell (f : List ℕ) (held : Held) : Type 0 where
+pub record RefersWell (f : List ℕ) (held : Content) : Type 0 where
   pub numbers : AllByRecursion (λ reference. reference < (trailer_of f).count) (references_of held)
   pub texts : AllByRecursion (HoldsText f) (keys_of held)
 
 -- the end of the object before i, or of the header
 abbrev pub IsEndBefore : List ℕ → ℕ → ℕ → Type 0
-IsEndBefore f zero place = place ≡ 8
-IsEndBefore f (suc before) place = (start : ℕ) × (span_of f before ≡ Ok (start, place))
+IsEndBefore f zero offset = offset ≡ 8
+IsEndBefore f (suc before) offset = (start : ℕ) × (span_of f before ≡ Ok (start, offset))
 
 -- object i begins where its predecessor ends, or the header
 pub record Follows (f : List ℕ) (i : ℕ) : Type 0 where
-  pub place : ℕ
+  pub offset : ℕ
   pub end : ℕ
-  pub before : IsEndBefore f i place
-  pub span : span_of f i ≡ Ok (place, end)
+  pub before : IsEndBefore f i offset
+  pub span : span_of f i ≡ Ok (offset, end)
 
--- the rules about one object alone hold, except for the place of the offset table
+-- the rules about one object alone hold, except for the offset of the offset table
 pub record IsJudged (f : List ℕ) (i : ℕ) : Type 0 where
   pub read : IsWellRead f i
   pub follows : Follows f i

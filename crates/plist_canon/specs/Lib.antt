@@ -1,11 +1,11 @@
 pub use Rattle.plist_value.specs.Plist
 pub use Rattle.plist_value.specs.Limits
 pub use Rattle.plist_object.specs.Spelled
-pub use Rattle.plist_engine.specs.Canonical
-pub use Rattle.plist_engine.specs.Sink
-pub use Rattle.plist_engine.specs.Sending
-pub use Rattle.plist_engine.specs.ListSink
-pub use Rattle.plist_engine.specs.Laws
+pub use Rattle.plist_write.specs.Canonical
+pub use Rattle.plist_write.specs.Sink
+pub use Rattle.plist_write.specs.Sending
+pub use Rattle.plist_write.specs.ListSink
+pub use Rattle.plist_write.specs.Laws
 pub mod Rules
 pub mod Locality
 pub mod Checking

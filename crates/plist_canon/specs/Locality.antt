@@ -3,7 +3,7 @@ use Rattle.std.specs.Prelude.{◌≡◌, ◌↔◌, ℕ, List}
 use Rattle.plist_value.specs.Plist.{Plist, AreOctets, IsPlist}
 use Rattle.plist_value.specs.Limits.{Fits}
 use Rattle.plist_object.specs.Layout.{IsLaid}
-use Rattle.plist_engine.specs.Canonical.{canon}
+use Rattle.plist_write.specs.Canonical.{canon}
 use Rattle.plist_canon.specs.Rules.{FollowsRules}
 
 -- the bytes are the canonical file of a value within the limits

@@ -2,7 +2,7 @@
 use Rattle.std.specs.Prelude.{◌≡◌, ◌↔◌, ℕ, ◌<◌, false, List, [], ◌∷◌, ◌++◌, length, drop}
 use Rattle.std.specs.Prelude.{slice_index_or}
 use Rattle.std.specs.List.{Contains}
-use Rattle.plist_object.specs.Objects.{Held, holds_scalar, holds_list, holds_table}
+use Rattle.plist_object.specs.Objects.{Content, holds_scalar, holds_list, holds_table}
 use Rattle.plist_object.specs.Views.{numbers_of}
 use Rattle.plist_canon.specs.Rules.{Reference, held_by, ComesTo}
 use Rattle.plist_canon.specs.Weights.{container, is_scalar_weight}
@@ -39,7 +39,7 @@ path_groups [] = []
 path_groups (frame ∷ frames) = path_groups frames ++ (frame_group frame ∷ [])
 
 -- the references of an object, with the depth allowed for their values
-abbrev pub groups_of : ℕ → ℕ → Held → List Group
+abbrev pub groups_of : ℕ → ℕ → Content → List Group
 groups_of owner levels (holds_scalar s) = []
 groups_of owner levels (holds_list refs) = grouped owner levels refs ∷ []
 groups_of owner levels (holds_table keys values) = grouped owner levels keys

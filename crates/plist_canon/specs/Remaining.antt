@@ -32,10 +32,10 @@ payload_referred f (group ∷ groups) referred =
     payload_of_items referred.0.items + payload_referred f groups referred.1
 
 -- no value is deeper than its group allows
-abbrev pub AreWithin : (f : List ℕ) (groups : List Group) → AllReferred f groups → Type 0
-AreWithin f [] referred = ⊤
-AreWithin f (group ∷ groups) referred = (depth_of_items referred.0.items ≤ group.levels)
-    × AreWithin f groups referred.1
+abbrev pub AreWithinLimits : (f : List ℕ) (groups : List Group) → AllReferred f groups → Type 0
+AreWithinLimits f [] referred = ⊤
+AreWithinLimits f (group ∷ groups) referred = (depth_of_items referred.0.items ≤ group.levels)
+    × AreWithinLimits f groups referred.1
 
 -- All of the value but what the groups refer to is spent. The value is within the limit of depth if
 -- and only if the groups are.
@@ -44,8 +44,8 @@ pub record IsSpent (f : List ℕ) (groups : List Group) (left : Budget) (v : Pli
   pub nodes_left : left.nodes + nodes v ≡ MAX_NODES + nodes_referred f groups referred
   pub payload_left : left.payload + payload v ≡ MAX_PAYLOAD + payload_referred f groups referred
   pub payload_most : left.payload ≤ MAX_PAYLOAD
-  pub within : depth v ≤ MAX_DEPTH → AreWithin f groups referred
-  pub deep : AreWithin f groups referred → depth v ≤ MAX_DEPTH
+  pub within : depth v ≤ MAX_DEPTH → AreWithinLimits f groups referred
+  pub deep : AreWithinLimits f groups referred → depth v ≤ MAX_DEPTH
 
 -- what is left of the limits before the groups are walked, none if a limit is exceeded
 abbrev pub HasLeft : List ℕ → List Group → Option Budget → Type 0
@@ -53,8 +53,8 @@ HasLeft f groups (Some left) = (v : Plist) → IsPlist v → Spells f 0 v → Is
 HasLeft f groups None = (v : Plist) → IsPlist v → Spells f 0 v → ¬ Fits v
 
 -- what an object of this weight takes if `levels` are allowed
-abbrev pub Takes : ℕ → Weight → Option Budget → Option Budget → Type 0
-Takes levels weight None after = after ≡ None
-Takes levels weight (Some before) (Some after) = (1 ≤ levels)
+abbrev pub TakesLeft : ℕ → Weight → Option Budget → Option Budget → Type 0
+TakesLeft levels weight None after = after ≡ None
+TakesLeft levels weight (Some before) (Some after) = (1 ≤ levels)
     × Spends before 1 (payload_of_weight weight) after
-Takes levels weight (Some before) None = 1 ≤ levels → IsOver before 1 (payload_of_weight weight)
+TakesLeft levels weight (Some before) None = 1 ≤ levels → IsOver before 1 (payload_of_weight weight)

@@ -9,7 +9,7 @@ use Rattle.std.specs.Cmp.Lexicographic.{slice_cmp}
 use Rattle.plist_value.specs.Plist.{Scalar, text, Plist, IsPlist}
 use Rattle.plist_value.specs.Limits.{Fits}
 use Rattle.plist_object.specs.Layout.{trailer_of, slack_of}
-use Rattle.plist_object.specs.Objects.{Held, holds_scalar, holds_list, holds_table}
+use Rattle.plist_object.specs.Objects.{Content, holds_scalar, holds_list, holds_table}
 use Rattle.plist_object.specs.Places.{Holds, HoldsScalar, HoldsText, object_at, what_holds, span_of}
 use Rattle.plist_object.specs.Spelled.{Spells}
 use Rattle.plist_object.specs.Spelling.{least_width}
@@ -17,7 +17,7 @@ use Rattle.plist_object.specs.References.{references_of}
 use Rattle.plist_object.specs.Shortest.{IsShortest}
 
 -- the references of a dictionary to its keys
-abbrev pub keys_of : Held → List ℕ
+abbrev pub keys_of : Content → List ℕ
 keys_of (holds_scalar s) = []
 keys_of (holds_list refs) = []
 keys_of (holds_table keys values) = keys
@@ -32,7 +32,7 @@ HoldTexts f (i ∷ refs) (units ∷ texts) = Holds f i (holds_scalar (text units
 -- Object i can be decoded, each of its references is the number of an object, and those to keys
 -- point to strings.
 pub record IsWellRead (f : List ℕ) (i : ℕ) : Type 0 where
-  pub held : Held
+  pub held : Content
   pub holds : Holds f i held
   pub numbers : AllByRecursion (λ reference. reference < (trailer_of f).count) (references_of held)
   pub texts : AllByRecursion (HoldsText f) (keys_of held)
@@ -83,7 +83,7 @@ IsNoRepeat f i =
 -- The walk from object i in preorder: i itself, followed by the walks from its references in order.
 mutual
   pub data Walk (f : List ℕ) : ℕ → List ℕ → Type 0 where
-    visit : (i : ℕ) (held : Held) (entries : List ℕ) → Holds f i held
+    visit : (i : ℕ) (held : Content) (entries : List ℕ) → Holds f i held
         → Walks f (references_of held) entries → Walk f i (i ∷ entries)
 
   pub data Walks (f : List ℕ) : List ℕ → List ℕ → Type 0 where
@@ -130,8 +130,8 @@ held_by holder (i ∷ refs) = record { holder = holder; number = i } ∷ held_by
 -- The walk from object 0 in preorder, while its entries come in order: these are the entries so
 -- far, and these references are still to be followed, the next one first.
 pub data ComesTo (f : List ℕ) : List ℕ → List Reference → Type 0 where
-  begins : (held : Held) → Holds f 0 held → ComesTo f (0 ∷ []) (held_by 0 (references_of held))
-  goes_on : (entries : List ℕ) (holder i : ℕ) (held : Held) (left : List Reference)
+  begins : (held : Content) → Holds f 0 held → ComesTo f (0 ∷ []) (held_by 0 (references_of held))
+  goes_on : (entries : List ℕ) (holder i : ℕ) (held : Content) (left : List Reference)
       → ComesTo f entries (record { holder = holder; number = i } ∷ left) → ComesInOrder f entries i
       → Holds f i held → ComesTo f (entries ++ (i ∷ [])) (held_by i (references_of held) ++ left)
 

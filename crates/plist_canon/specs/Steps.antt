@@ -6,7 +6,7 @@ use Rattle.plist_value.specs.Limits.{Fits}
 use Rattle.plist_value.specs.declared.TheConstants.{MAX_DEPTH}
 use Rattle.plist_value.specs.declared.budget.Budget.{Budget}
 use Rattle.plist_object.specs.Layout.{trailer_of}
-use Rattle.plist_object.specs.Objects.{Held}
+use Rattle.plist_object.specs.Objects.{Content}
 use Rattle.plist_object.specs.Places.{Holds}
 use Rattle.plist_object.specs.Spelled.{Spells}
 use Rattle.plist_object.specs.Views.{numbers_of}
@@ -19,7 +19,7 @@ use Rattle.plist_canon.specs.Checking.{AllRead, AllAscend}
 use Rattle.plist_canon.specs.Weights.{container, weight_of, is_scalar_weight, AreWeights}
 use Rattle.plist_canon.specs.Preorders.{IsWalking, Group, grouped, groups_of, references_left}
 use Rattle.plist_canon.specs.Preorders.{frame_group, path_groups}
-use Rattle.plist_canon.specs.Remaining.{HasLeft, Takes}
+use Rattle.plist_canon.specs.Remaining.{HasLeft, TakesLeft}
 
 -- The objects below `seen` were visited, and the groups are left.
 pub record HasVisited (f : List ℕ) (seen : ℕ) (left : Option Budget)
@@ -28,11 +28,11 @@ pub record HasVisited (f : List ℕ) (seen : ℕ) (left : Option Budget)
   pub limits : AreOctets f → AllAscend f → HasLeft f groups left
 
 -- the reference points to a visited scalar, if these are the weights of the visited objects
-pub record Passes (weights : List Weight) (levels i : ℕ)
+pub record SkipsScalar (weights : List Weight) (levels i : ℕ)
     (before after : Option Budget) : Type 0 where
   pub listed : i < length weights
   pub is_scalar : is_scalar_weight (slice_index_or weights i container) ≡ true
-  pub takes : Takes levels (slice_index_or weights i container) before after
+  pub takes : TakesLeft levels (slice_index_or weights i container) before after
 
 -- the walk gets from the first groups to the others by skipping scalars of these weights
 abbrev pub GoesOn : List Weight → List Group → Option Budget → List Group → Option Budget → Type 0
@@ -71,8 +71,8 @@ HasVisitedFirst f (suc before) left groups = HasVisited f (suc before) left grou
 -- the object is visited next, with `levels` allowed, and then the groups are left
 abbrev pub Awaits : List ℕ → ℕ → ℕ → Option Budget → List Group → Type 0
 Awaits f i levels left groups =
-    (held : Held) (after : Option Budget) → Holds f i held
-    → Takes levels (weight_of held) left after
+    (held : Content) (after : Option Budget) → Holds f i held
+    → TakesLeft levels (weight_of held) left after
     → HasVisited f (suc i) after (groups_of i (levels - 1) held ++ groups)
 
 -- the walk gets to the next object, with the levels allowed there, or breaks rule 7

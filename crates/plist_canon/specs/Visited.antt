@@ -1,6 +1,6 @@
 -- Visiting the objects of a file in the order of their numbers.
 use Rattle.std.specs.Prelude.{ℕ, List}
-use Rattle.plist_engine.specs.RepeatFilter.{AreAdded}
+use Rattle.plist_write.specs.RepeatFilter.{AreAdded}
 use Rattle.plist_canon.specs.Checking.{IsEndBefore}
 use Rattle.plist_canon.specs.Steps.{Walked}
 use Rattle.plist_canon.specs.declared.visited.Visited.{Visited}

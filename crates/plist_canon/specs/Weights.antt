@@ -1,7 +1,7 @@
 -- What an object without its references counts against the limits.
 use Rattle.std.specs.Prelude.{◌≡◌, ℕ, ◌<◌, min, Bool, true, false, List, length, slice_index_or}
 use Rattle.plist_value.specs.Limits.{payload_of_scalar}
-use Rattle.plist_object.specs.Objects.{Held, holds_scalar, holds_list, holds_table}
+use Rattle.plist_object.specs.Objects.{Content, holds_scalar, holds_list, holds_table}
 use Rattle.plist_object.specs.Places.{Holds}
 use Rattle.plist_canon.specs.declared.weights.Weight.{Weight}
 use Rattle.plist_canon.specs.declared.weights.Weight.TheVariants.{Container, Scalar}
@@ -11,7 +11,7 @@ abbrev pub container : Weight
 container = Container
 
 -- the payload of a scalar is capped above the limit
-abbrev pub weight_of : Held → Weight
+abbrev pub weight_of : Content → Weight
 weight_of (holds_scalar s) = Scalar (min (payload_of_scalar s) MOST_KEPT)
 weight_of (holds_list refs) = Container
 weight_of (holds_table keys values) = Container
@@ -27,7 +27,7 @@ payload_of_weight (Scalar payload) = payload
 
 -- the object can be decoded, and has this weight
 pub record Weighs (f : List ℕ) (i : ℕ) (weight : Weight) : Type 0 where
-  pub held : Held
+  pub held : Content
   pub holds : Holds f i held
   pub is : weight ≡ weight_of held
 

@@ -102,7 +102,7 @@ pub enum Verdict {
 ///   only scalars more than once.
 ///
 /// The rules are tested in this order. First come 1 and 2, then 0, 3, 4, 5 and 6 object by object.
-/// Then follow 3 at the last object, for the place of the offset table, 7, and 0 at object 0, for
+/// Then follow 3 at the last object, for the offset of the offset table, 7, and 0 at object 0, for
 /// the limits. Rule 6 is broken at the later of two equal objects. Rule 7 is broken at the
 /// container with the first bad reference of the walk, or at 0 if an object is never visited.
 ///

@@ -3,14 +3,14 @@ ghost use Rattle.std.specs.Prelude.{◌≡◌, ◌↔◌, ◌<◌, ◌≤◌, �
 ghost use Rattle.std.specs.Prelude.{IfOk, IfErr, OnOk, take};
 ghost use Rattle.plist_object.specs.KeyOrder.{IsReady};
 ghost use Rattle.plist_object.specs.Layout.{trailer_of};
-ghost use Rattle.plist_object.specs.Objects.{IsHeld};
+ghost use Rattle.plist_object.specs.Objects.{IsContent};
 ghost use Rattle.plist_object.specs.Places.{Holds, span_of};
 ghost use Rattle.plist_object.specs.Views.{held_of, octets_of};
 ghost use Rattle.plist_canon.specs.Rules.{HasPlainTrailer, HasLeastWidths, Adjoins};
 ghost use Rattle.plist_canon.specs.Rules.{IsSpelledCanonically, IsNoRepeat};
 ghost use Rattle.plist_canon.specs.Checking.{IsFlaw, earlier, IsEndBefore};
 ghost use Rattle.plist_canon.specs.Checking.{Follows, IsJudged};
-ghost use Rattle.plist_engine.specs.RepeatFilter.{AreAdded};
+ghost use Rattle.plist_write.specs.RepeatFilter.{AreAdded};
 ghost use Rattle.plist_canon.specs.Steps.{Walked};
 
 use crate::preorder::Walk;
@@ -18,8 +18,8 @@ use crate::references::judge_references;
 use crate::repeats::judge_repeats;
 use crate::rule::Rule;
 use crate::visited::Visited;
-use plist_engine::RepeatFilterBuilder;
 use plist_object::{BinFile, KeyOrder, Spanned, begins_canonically, width_of};
+use plist_write::RepeatFilterBuilder;
 use std::alloc::{AllocError, AllocFailed, Global};
 use std::hash::BuildHasher;
 
@@ -101,7 +101,7 @@ fn has_least_widths(file: &BinFile) -> bool
     file.offset_width() == offset_width && file.reference_width() == reference_width
 }
 
-/// Validates rules 0, 3, 4, 5 and 6 for each object, except for the limits, and then the place of
+/// Validates rules 0, 3, 4, 5 and 6 for each object, except for the limits, and then the offset of
 /// the offset table. `objects` are the bytes before that table. Returns the walk, which kept pace
 /// with the objects.
 pub(crate) fn judge_objects<'a, S: BuildHasher + Copy>(
@@ -169,7 +169,7 @@ fn judge_table(file: &BinFile, end: u64) -> Result<(), Flaw>
     Ok(())
 }
 
-// Validates all rules but 6 for object `i` and returns its content; `place` is the end of its
+// Validates all rules but 6 for object `i` and returns its content; `offset` is the end of its
 // predecessor.
 #[inline(always)]
 fn judge_object<'a>(
@@ -178,13 +178,13 @@ fn judge_object<'a>(
     file: &BinFile<'a>,
     order: &mut KeyOrder<'a>,
     i: u64,
-    place: u64,
+    offset: u64,
 ) -> Result<Spanned<'a>, Flaw>
     requires objects { objects.now
         ≡ take (trailer_of (octets_of file.now)).table (octets_of file.now) }
     requires ready { IsReady (octets_of file.now) order.old }
     requires listed { i < (trailer_of (octets_of file.now)).count }
-    requires before { IsEndBefore (octets_of file.now) i place }
+    requires before { IsEndBefore (octets_of file.now) i offset }
     ensures judged { OnOk result (IsJudged (octets_of file.now) i) }
     ensures holds { IfOk result (λ read. Holds (octets_of file.now) i (held_of read.object)) }
     ensures span { IfOk result
@@ -196,36 +196,37 @@ fn judge_object<'a>(
         return Err(Flaw::at(Rule::Readable, i));
     };
     let ascend = judge_references(alloc, file, order, i, &read.object)?;
-    judge_encoding(objects, file, i, place, &read)?;
+    judge_encoding(objects, file, i, offset, &read)?;
     if !ascend {
         return Err(Flaw::at(Rule::AscendingKeys, i));
     }
     Ok(read)
 }
 
-// Validates rules 3 and 4 for object `i`, decoded as `read`; `place` is the end of its predecessor.
+// Validates rules 3 and 4 for object `i`, decoded as `read`; `offset` is the end of its
+// predecessor.
 #[inline(always)]
 fn judge_encoding(
     objects: &[u8],
     file: &BinFile,
     i: u64,
-    place: u64,
+    offset: u64,
     read: &Spanned,
 ) -> Result<(), Flaw>
     requires objects { objects.now
         ≡ take (trailer_of (octets_of file.now)).table (octets_of file.now) }
-    requires before { IsEndBefore (octets_of file.now) i place }
+    requires before { IsEndBefore (octets_of file.now) i offset }
     requires holds { Holds (octets_of file.now) i (held_of read.now.object) }
     requires span { span_of (octets_of file.now) i ≡ Ok (read.now.start, read.now.end) }
-    requires valid { IsHeld (held_of read.now.object) }
+    requires valid { IsContent (held_of read.now.object) }
     ensures follows { OnOk result (Follows (octets_of file.now) i) }
     ensures spelled { OnOk result (IsSpelledCanonically (octets_of file.now) i) }
     ensures err { IfErr result (IsFlaw (octets_of file.now)) }
 {
-    if read.start != place {
+    if read.start != offset {
         return Err(Flaw::at(Rule::Adjoining, i));
     }
-    if !begins_canonically(&objects[place as usize..], &read.object) {
+    if !begins_canonically(&objects[offset as usize..], &read.object) {
         return Err(Flaw::at(Rule::CanonicalEncoding, i));
     }
     Ok(())

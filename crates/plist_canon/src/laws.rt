@@ -1,7 +1,7 @@
 //! What holds of all canonical files. Each law is the contract of a function that does nothing.
 ghost use Rattle.plist_canon.specs.Locality.{CanonicityIsLocal};
 
-pub use plist_engine::laws::{
+pub use plist_write::laws::{
     canonical_is_short, canonical_spells_its_value, canonical_tells_values_apart,
 };
 

@@ -6,7 +6,7 @@ pub mod checking;
 mod judging;
 pub mod laws;
 mod objects;
-mod places;
+mod offsets;
 mod preorder;
 mod references;
 mod repeats;
@@ -16,5 +16,5 @@ mod weights;
 mod writing;
 
 pub use checking::{CheckFault, Verdict, check, check_with_hasher};
-pub use plist_engine::{DeviceFault, ListSink, Sink, WriteFault};
+pub use plist_write::{DeviceFault, ListSink, Sink, WriteFault};
 pub use writing::{canonical, canonical_with_hasher, write_canonical, write_canonical_with_hasher};

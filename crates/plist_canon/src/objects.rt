@@ -4,7 +4,7 @@ ghost use Rattle.plist_value.specs.Plist.{Scalar};
 ghost use Rattle.plist_value.specs.Scalars.{content_of};
 ghost use Rattle.plist_object.specs.Layout.{trailer_of};
 ghost use Rattle.plist_object.specs.Views.{octets_of};
-ghost use Rattle.plist_engine.specs.RepeatFilter.{HoldsIt};
+ghost use Rattle.plist_write.specs.RepeatFilter.{HoldsIt};
 
 use plist_object::{BinFile, Object};
 use plist_value::ScalarRef;

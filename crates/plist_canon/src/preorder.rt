@@ -6,8 +6,8 @@ ghost use Rattle.plist_object.specs.Places.{Holds};
 ghost use Rattle.plist_object.specs.Views.{held_of, numbers_of};
 ghost use Rattle.plist_canon.specs.Checking.{IsFlaw};
 ghost use Rattle.plist_canon.specs.Preorders.{IsNoneSeen, grouped, groups_of, path_groups};
-ghost use Rattle.plist_canon.specs.Remaining.{Takes};
-ghost use Rattle.plist_canon.specs.Steps.{ComesToNext, FrameGoesOn, Passes, PathGoesOn};
+ghost use Rattle.plist_canon.specs.Remaining.{TakesLeft};
+ghost use Rattle.plist_canon.specs.Steps.{ComesToNext, FrameGoesOn, SkipsScalar, PathGoesOn};
 ghost use Rattle.plist_canon.specs.Steps.{Walked, WalkedAll, WalksWithinLimits};
 
 use crate::judging::Flaw;
@@ -202,10 +202,10 @@ fn first_other(frame: &Frame, left: &mut Option<Budget>, weights: &[Weight]) -> 
     ensures goes { FrameGoesOn weights.now frame.now left.old result left.new }
     ensures none { IfSome result (λ p. IsNoneSeen weights.now p.1) }
 {
-    for place in frame.done..frame.refs.len() {
-        let reference = frame.refs.get(place);
-        if !pass(left, weights, reference, frame.levels) {
-            return Some((place + 1, reference));
+    for index in frame.done..frame.refs.len() {
+        let reference = frame.refs.get(index);
+        if !skip_scalar(left, weights, reference, frame.levels) {
+            return Some((index + 1, reference));
         }
     }
     None
@@ -214,8 +214,8 @@ fn first_other(frame: &Frame, left: &mut Option<Budget>, weights: &[Weight]) -> 
 // Skips a reference to a visited scalar, counts it against the limits, and returns whether it was
 // one. `levels` is the depth allowed for its value.
 #[inline(always)]
-fn pass(left: &mut Option<Budget>, weights: &[Weight], reference: u64, levels: u64) -> bool
-    ensures passed { IsTrue result → Passes weights.now levels reference left.old left.new }
+fn skip_scalar(left: &mut Option<Budget>, weights: &[Weight], reference: u64, levels: u64) -> bool
+    ensures passed { IsTrue result → SkipsScalar weights.now levels reference left.old left.new }
     ensures stays { result ≡ false → left.new ≡ left.old }
     ensures none { result ≡ false → IsNoneSeen weights.now reference }
 {
@@ -233,7 +233,7 @@ fn pass(left: &mut Option<Budget>, weights: &[Weight], reference: u64, levels: u
 // Returns the budget left after an object of this size; `levels` is the depth still allowed.
 #[inline(always)]
 fn spend(left: Option<Budget>, weight: Weight, levels: u64) -> Option<Budget>
-    ensures { Takes levels weight left result }
+    ensures { TakesLeft levels weight left result }
 {
     if levels == 0 {
         return None;

@@ -8,7 +8,7 @@ ghost use Rattle.plist_canon.specs.Rules.{HasAscendingKeys};
 ghost use Rattle.plist_canon.specs.Checking.{IsFlaw, RefersWell};
 
 use crate::judging::Flaw;
-use crate::places::judge_places;
+use crate::offsets::judge_offsets;
 use crate::rule::Rule;
 use plist_object::{BinFile, KeyOrder, Object, Refs};
 use std::alloc::Global;
@@ -79,7 +79,7 @@ fn judge_pairs<'a>(
         return Err(Flaw::at(Rule::Readable, i));
     }
     if !order.prepare(alloc, file, keys)? {
-        judge_places(file)?;
+        judge_offsets(file)?;
     }
     if order.ascend(file, keys) {
         return Ok(true);

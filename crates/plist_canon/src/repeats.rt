@@ -4,14 +4,14 @@ ghost use Rattle.plist_object.specs.Layout.{trailer_of};
 ghost use Rattle.plist_object.specs.Views.{octets_of};
 ghost use Rattle.plist_canon.specs.Rules.{IsNoRepeat};
 ghost use Rattle.plist_canon.specs.Checking.{IsFlaw};
-ghost use Rattle.plist_engine.specs.RepeatFilter.{AreAdded, HasAdded};
+ghost use Rattle.plist_write.specs.RepeatFilter.{AreAdded, HasAdded};
 ghost use Rattle.plist_canon.specs.Seen.{HasSeen};
 
 use crate::judging::Flaw;
 use crate::objects::scalar_of;
 use crate::rule::Rule;
-use plist_engine::{RepeatFilter, RepeatFilterBuilder, Scalars};
 use plist_object::BinFile;
+use plist_write::{RepeatFilter, RepeatFilterBuilder, ScalarNumbers};
 use std::alloc::Global;
 use std::hash::BuildHasher;
 
@@ -32,7 +32,7 @@ pub(crate) fn judge_repeats<S: BuildHasher + Copy>(
     ensures err { IfErr result (IsFlaw (octets_of file.now)) }
 {
     let filter = builder.build(alloc)?;
-    let mut seen = Scalars::new(alloc, hasher, filter.len());
+    let mut seen = ScalarNumbers::new(alloc, hasher, filter.len());
     for i in 0..filter.len() {
         judge_repeat(file, &filter, i, &mut seen)?;
     }
@@ -45,7 +45,7 @@ fn judge_repeat<'a, S: BuildHasher + Copy>(
     file: &BinFile<'a>,
     filter: &RepeatFilter,
     i: usize,
-    seen: &mut Scalars<'a, S>,
+    seen: &mut ScalarNumbers<'a, S>,
 ) -> Result<(), Flaw>
     requires added { HasAdded (octets_of file.now) (length filter.now.bits.items) filter.now }
     requires among { i < length filter.now.bits.items }

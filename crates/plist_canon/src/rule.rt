@@ -1,6 +1,6 @@
 //! The eight rules of a canonical file.
 ghost use Rattle.std.specs.Prelude.{◌≡◌};
-ghost use Rattle.plist_canon.specs.Checking.{number_of};
+ghost use Rattle.plist_canon.specs.Checking.{rule_number};
 
 /// A rule of a canonical file, as explained at [`check`](crate::check).
 #[derive(Clone, Copy)]
@@ -22,7 +22,7 @@ pub(crate) enum Rule {
 impl Rule {
     /// Returns the number of the rule, from 0 to 7.
     pub(crate) fn number(self) -> u8
-        ensures { result ≡ number_of self }
+        ensures { result ≡ rule_number self }
     {
         match self {
             Rule::Readable => 0,

@@ -5,8 +5,8 @@ ghost use Rattle.plist_object.specs.Views.{held_of, octets_of};
 ghost use Rattle.plist_canon.specs.Visited.{AreVisited};
 
 use crate::preorder::Walk;
-use plist_engine::RepeatFilterBuilder;
 use plist_object::{BinFile, Spanned};
+use plist_write::RepeatFilterBuilder;
 use std::alloc::{AllocError, Global};
 use std::hash::BuildHasher;
 

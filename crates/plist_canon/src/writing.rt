@@ -3,15 +3,15 @@ ghost use Rattle.std.specs.Prelude.{◌≡◌, IfOk};
 ghost use Rattle.plist_value.specs.Limits.{Fits};
 ghost use Rattle.plist_value.specs.View.{view};
 ghost use Rattle.plist_object.specs.Spelled.{IsBinary};
-ghost use Rattle.plist_engine.specs.Canonical.{canon, objects_of};
-ghost use Rattle.plist_engine.specs.Sending.{ArePieces, IsWritten};
-ghost use Rattle.plist_engine.specs.Tree.{preorder};
+ghost use Rattle.plist_write.specs.Canonical.{canon, objects_of};
+ghost use Rattle.plist_write.specs.Sending.{ArePieces, IsWritten};
+ghost use Rattle.plist_write.specs.Tree.{preorder};
 
 use crate::{Sink, WriteFault};
 use plist_draft::{Draft, put_value};
-use plist_engine::{canonical_of, write_canonical_of};
 use plist_object::{BinFile, JudgedFile};
 use plist_value::{FixedHasher, Value};
+use plist_write::{canonical_of, write_canonical_of};
 use std::alloc::{AllocError, Global};
 use std::hash::BuildHasher;
 
@@ -20,7 +20,7 @@ use std::hash::BuildHasher;
 /// profile.
 ///
 /// Copies the value into another binary file, from which
-/// [`canonical_of`](plist_engine::canonical_of) makes the canonical one.
+/// [`canonical_of`](plist_write::canonical_of) makes the canonical one.
 ///
 /// # Errors
 ///

@@ -24,9 +24,9 @@ use Rattle.plist_forms.specs.declared.faults.Fault.TheVariants.{Binary, Text as 
 use Rattle.plist_forms.specs.declared.pairs.PairFault.{PairFault}
 use Rattle.plist_forms.specs.declared.pairs.PairFault.TheVariants.{First, Second}
 use Rattle.plist_forms.specs.Pair.{IsRefusedPair}
-use Rattle.plist_engine.specs.Sending.{IsWritten}
-use Rattle.plist_engine.specs.declared.faults.WriteFault.{WriteFault}
-use Rattle.plist_engine.specs.declared.faults.WriteFault.TheVariants as write
+use Rattle.plist_write.specs.Sending.{IsWritten}
+use Rattle.plist_write.specs.declared.faults.WriteFault.{WriteFault}
+use Rattle.plist_write.specs.declared.faults.WriteFault.TheVariants as write
 use Rattle.plist_forms.specs.Output.{IsOutputFault}
 use Rattle.plist_convert.specs.Files.{FileName, Files, IsStored, IsUnloaded}
 use Rattle.plist_convert.specs.Asked.{Asked, Filters, Converts, Compares, Lints, Checks}

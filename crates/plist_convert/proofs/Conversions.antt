@@ -5,10 +5,10 @@ use Rattle.plist_forms.specs.Refusals.{IsRefused}
 use Rattle.plist_forms.specs.declared.faults.Fault.{Fault}
 use Rattle.plist_forms.specs.declared.faults.Fault.TheVariants.{Binary, Text, NotInOpenStep, ReadFailed, WriteFailed, InputTooLarge, OutOfMemory}
 use Rattle.plist_forms.specs.declared.forms.Form.{Form}
-use Rattle.plist_engine.specs.declared.faults.WriteFault.{WriteFault}
+use Rattle.plist_write.specs.declared.faults.WriteFault.{WriteFault}
 use Rattle.plist_forms.specs.Output.{IsOutputFault}
 use Rattle.plist_forms.specs.Sent.{answer_of}
-use Rattle.plist_convert.specs.Files.{FileName, Holds, IsOutputStored, SameFiles, Stores}
+use Rattle.plist_convert.specs.Files.{FileName, FileHolds, IsOutputStored, SameFiles, Stores}
 use Rattle.plist_convert.specs.Ending.{Ends}
 use Rattle.plist_convert.specs.Runs.{EndsSending, IsConverted, IsConvertRun, path_of_fault, refusal_between}
 use Rattle.plist_convert.specs.State.{State}
@@ -31,7 +31,7 @@ stored_front from to (Err f) fault old new before after status is ends =
 
 -- a store after a load is a store from the state before the load
 store_before : (form : Form) (octets : List ℕ) (from to : FileName) (before middle after : State) (status : ℕ) (result : Result ℕ Fault)
-    → Holds before.files from octets → SameFiles before.files middle.files → middle.disk_failures ≡ before.disk_failures
+    → FileHolds before.files from octets → SameFiles before.files middle.files → middle.disk_failures ≡ before.disk_failures
     → (goes : IsOutputStored form octets middle.files after.files middle.disk_failures after.disk_failures to result)
     → EndsSending before.printed after.printed before.print_failures after.print_failures (λ fault. refusal_between from to (write_fault_for fault)) goes.sent status
     → IsConverted form from to before after status
@@ -48,7 +48,7 @@ store_before form octets from to before middle after status result stands kept u
 }
 
 pub converted : (form : Form) (octets : List ℕ) (from to : FileName) (before middle after : State) (n : ℕ)
-    → Holds before.files from octets → SameFiles before.files middle.files → middle.disk_failures ≡ before.disk_failures
+    → FileHolds before.files from octets → SameFiles before.files middle.files → middle.disk_failures ≡ before.disk_failures
     → after.printed ≡ before.printed → after.print_failures ≡ before.print_failures
     → Stores form octets middle.files after.files middle.disk_failures after.disk_failures to (Ok n)
     → IsConvertRun form from to before after 0
@@ -70,7 +70,7 @@ told_under form octets from to fault (inl refused) = refused_under octets from t
 told_under form octets from to fault (inr none) = rw none.is refl
 
 pub unconverted : (form : Form) (octets : List ℕ) (from to : FileName) (before middle after : State) (status : ℕ) (fault : Fault)
-    → Holds before.files from octets → SameFiles before.files middle.files → middle.disk_failures ≡ before.disk_failures
+    → FileHolds before.files from octets → SameFiles before.files middle.files → middle.disk_failures ≡ before.disk_failures
     → Stores form octets middle.files after.files middle.disk_failures after.disk_failures to (Err fault)
     → Ends before.printed after.printed before.print_failures after.print_failures (refusal_between from to fault) status
     → IsConvertRun form from to before after status

@@ -4,11 +4,11 @@ use Rattle.std.specs.Prelude.{◌≢◌, ◌<◌, ◌≤◌, Bool, IfErr, IfOk, 
 use Rattle.std.specs.Str.{bytes_eq}
 use Rattle.std.proofs.lemmas.List.{length-take-le}
 use Rattle.std.proofs.lemmas.Slice.Eq.{bytes_eq-Decides}
-use Rattle.plist_engine.specs.Canonical.{canon}
-use Rattle.plist_engine.specs.Sending.{IsWritten, sent_of}
-use Rattle.plist_engine.proofs.Going.{IsShort-within}
-use Rattle.plist_engine.specs.declared.faults.WriteFault.{WriteFault}
-use Rattle.plist_engine.specs.declared.faults.WriteFault.TheVariants as write
+use Rattle.plist_write.specs.Canonical.{canon}
+use Rattle.plist_write.specs.Sending.{IsWritten, sent_of}
+use Rattle.plist_write.proofs.Going.{IsShort-within}
+use Rattle.plist_write.specs.declared.faults.WriteFault.{WriteFault}
+use Rattle.plist_write.specs.declared.faults.WriteFault.TheVariants as write
 use Rattle.plist_forms.specs.Output.{IsOutput}
 use Rattle.plist_forms.specs.Sent.{answer_of}
 use Rattle.plist_forms.specs.Transfer.{Writes}

@@ -5,9 +5,9 @@ use Rattle.plist_devices.specs.Count.{one_more}
 use Rattle.plist_forms.specs.declared.faults.Fault.{Fault}
 use Rattle.plist_forms.specs.declared.faults.Fault.TheVariants.{InputTooLarge, OutOfMemory, ReadFailed}
 use Rattle.plist_forms.specs.declared.loading.TheConstants.{MAX_INPUT}
-use Rattle.plist_engine.specs.declared.faults.WriteFault.{WriteFault}
-use Rattle.plist_engine.specs.Sending.{IsBlamed, sent_of}
-use Rattle.plist_convert.specs.Files.{FileName, Files, Holds, IsStored, IsUnloaded, Lacks, SameBeside, SameFiles, Turns}
+use Rattle.plist_write.specs.declared.faults.WriteFault.{WriteFault}
+use Rattle.plist_write.specs.Sending.{IsBlamed, sent_of}
+use Rattle.plist_convert.specs.Files.{FileName, Files, FileHolds, IsStored, IsUnloaded, Lacks, SameBeside, SameFiles, Turns}
 
 -- a change from the files in between is a change from those before
 turns_before : (P Q : Files → Files → Type 0)
@@ -28,7 +28,7 @@ told_before P k (Some old) (Some mid) same t = k old mid same t
 pub same_trans : (f m n : Option Files) → SameFiles f m → SameFiles m n → SameFiles f n
 same_trans = turns_before _ _ (λ old mid new same t. λ name. t name ∙ same name)
 
-pub holds_before : (f m : Option Files) (path : FileName) (octets : List ℕ) → SameFiles f m → Holds m path octets → Holds f path octets
+pub holds_before : (f m : Option Files) (path : FileName) (octets : List ℕ) → SameFiles f m → FileHolds m path octets → FileHolds f path octets
 holds_before f m path octets = told_before (λ at. at path ≡ Some octets) (λ old mid same t. sym (same path) ∙ t) f m
 
 lacks_before : (f m : Option Files) (path : FileName) → SameFiles f m → Lacks m path → Lacks f path

@@ -2,9 +2,9 @@
 use Rattle.std.proofs.Common.{Err, List, None, Ok, Option, Result, ℕ, inl, inr}
 use Rattle.plist_forms.specs.declared.faults.Fault.{Fault}
 use Rattle.plist_forms.specs.declared.forms.Form.{Form}
-use Rattle.plist_engine.specs.declared.faults.WriteFault.{WriteFault}
-use Rattle.plist_engine.specs.declared.faults.WriteFault.TheVariants as write
-use Rattle.plist_engine.specs.Sending.{IsWritten}
+use Rattle.plist_write.specs.declared.faults.WriteFault.{WriteFault}
+use Rattle.plist_write.specs.declared.faults.WriteFault.TheVariants as write
+use Rattle.plist_write.specs.Sending.{IsWritten}
 use Rattle.plist_forms.specs.Sent.{answer_of}
 use Rattle.plist_forms.specs.Transfer.{Writes}
 use Rattle.plist_convert.specs.Files.{CountsFailure, FileName, Files, IsStored, Stores}

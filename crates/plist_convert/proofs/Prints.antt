@@ -3,7 +3,7 @@ use Rattle.std.proofs.Common.{inl, inr, refl, Err, List, Ok, Option, ℕ, ◌≡
 use Rattle.plist_forms.specs.Printed.{Prints}
 use Rattle.plist_forms.specs.Refusals.{IsRefused}
 use Rattle.plist_forms.specs.declared.faults.Fault.{Fault}
-use Rattle.plist_convert.specs.Files.{FileName, Holds, SameFiles}
+use Rattle.plist_convert.specs.Files.{FileName, FileHolds, SameFiles}
 use Rattle.plist_convert.specs.Answer.{refusal}
 use Rattle.plist_convert.specs.Ending.{Ends}
 use Rattle.plist_convert.specs.Runs.{IsPrintRun, refusal_between, standard}
@@ -12,7 +12,7 @@ use Rattle.plist_convert.proofs.Conversions.{refused_under, stored_front, stored
 
 -- everything was printed
 pub printed_whole : (octets : List ℕ) (path : FileName) (before after : State) (n : ℕ)
-    → Holds before.files path octets → SameFiles before.files after.files → after.disk_failures ≡ before.disk_failures
+    → FileHolds before.files path octets → SameFiles before.files after.files → after.disk_failures ≡ before.disk_failures
     → Prints octets before.printed after.printed before.print_failures after.print_failures (Ok n)
     → IsPrintRun path before after 0
 unfolding IsPrintRun
@@ -33,7 +33,7 @@ printed_whole octets path before after n stands kept unfailed (inr goes) = inr (
 
 -- a refusal, or only a prefix was printed
 pub unprinted : (octets : List ℕ) (path : FileName) (before after : State) (status : ℕ) (printed : Option (List ℕ)) (failures : ℕ) (fault : Fault)
-    → Holds before.files path octets → SameFiles before.files after.files → after.disk_failures ≡ before.disk_failures
+    → FileHolds before.files path octets → SameFiles before.files after.files → after.disk_failures ≡ before.disk_failures
     → Prints octets before.printed printed before.print_failures failures (Err fault)
     → Ends printed after.printed failures after.print_failures (refusal_between path standard fault) status
     → IsPrintRun path before after status

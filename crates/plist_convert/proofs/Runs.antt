@@ -4,7 +4,7 @@ use Rattle.std.specs.Prelude.{◌≤◌, IfOk, MatchResult, length}
 use Rattle.std.specs.declared.alloc.AllocError.{AllocError}
 use Rattle.clap.specs.Words.{Text, kind_of}
 use Rattle.clap.specs.declared.Error.{Error}
-use Rattle.plist_convert.specs.Files.{FileName, Holds, SameFiles}
+use Rattle.plist_convert.specs.Files.{FileName, FileHolds, SameFiles}
 use Rattle.plist_convert.specs.Reading.{IsReading}
 use Rattle.plist_convert.specs.declared.answers.Answer.{Answer}
 use Rattle.plist_convert.specs.Answer.{IsSameAnswer, Said, Says, said_of}
@@ -21,7 +21,7 @@ Gives before after answer status = MatchResult answer
     (λ _. Prints before.printed after.printed before.print_failures after.print_failures no_memory status)
 
 pub file_answered : (Answers : List ℕ → Said → Type 0) (path : FileName) (before after : State) (status : ℕ) (octets : List ℕ)
-    (answer : Result Answer AllocError) → Holds before.files path octets → SameFiles before.files after.files
+    (answer : Result Answer AllocError) → FileHolds before.files path octets → SameFiles before.files after.files
     → after.disk_failures ≡ before.disk_failures → IfOk answer (λ a. Answers octets (said_of a)) → Gives before after answer status
     → IsFileRun Answers path before after status
 file_answered Answers path before after status octets (Ok a) holds kept unfailed answers prints = inr (inl (record {
@@ -37,7 +37,7 @@ file_answered Answers path before after status octets (Err e) holds kept unfaile
     inr (inr (record { kept = kept; unfailed = unfailed; ends = prints }))
 
 pub files_compared : (first second : FileName) (before after : State) (status : ℕ) (a b : List ℕ) (answer : Result Answer AllocError)
-    → Holds before.files first a → Holds before.files second b → SameFiles before.files after.files
+    → FileHolds before.files first a → FileHolds before.files second b → SameFiles before.files after.files
     → after.disk_failures ≡ before.disk_failures → IfOk answer (λ r. IsSameAnswer first second a b (said_of r))
     → Gives before after answer status
     → IsCompared first second before after status ⊎ IsWanting before after status

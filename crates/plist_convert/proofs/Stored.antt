@@ -11,10 +11,10 @@ use Rattle.std.proofs.lemmas.Slice.Eq.{bytes_eq-Decides}
 use Rattle.plist_forms.specs.declared.faults.Fault.{Fault}
 use Rattle.plist_forms.specs.declared.faults.Fault.TheVariants.{Binary, Text, NotInOpenStep, ReadFailed, WriteFailed, InputTooLarge, OutOfMemory}
 use Rattle.plist_forms.specs.declared.forms.Form.{Form}
-use Rattle.plist_engine.specs.declared.faults.WriteFault.{WriteFault}
-use Rattle.plist_engine.specs.declared.faults.WriteFault.TheVariants as write
-use Rattle.plist_engine.specs.Sending.{IsBlamed, IsWritten, sent_of}
-use Rattle.plist_engine.proofs.Going.{IsShort-within}
+use Rattle.plist_write.specs.declared.faults.WriteFault.{WriteFault}
+use Rattle.plist_write.specs.declared.faults.WriteFault.TheVariants as write
+use Rattle.plist_write.specs.Sending.{IsBlamed, IsWritten, sent_of}
+use Rattle.plist_write.proofs.Going.{IsShort-within}
 use Rattle.plist_forms.specs.Output.{IsOutputFault}
 use Rattle.plist_forms.specs.Sent.{answer_of}
 use Rattle.plist_forms.specs.Transfer.{Writes}

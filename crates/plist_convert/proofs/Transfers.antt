@@ -10,9 +10,9 @@ use Rattle.plist_forms.specs.declared.faults.Fault.{Fault}
 use Rattle.plist_forms.specs.declared.faults.Fault.TheVariants.{InputTooLarge, OutOfMemory, ReadFailed}
 use Rattle.plist_forms.specs.declared.forms.Form.TheVariants.{Binary1}
 use Rattle.plist_forms.specs.declared.loading.TheConstants.{MAX_INPUT}
-use Rattle.plist_engine.specs.Canonical.{canon}
-use Rattle.plist_engine.specs.declared.faults.WriteFault.{WriteFault}
-use Rattle.plist_engine.specs.declared.faults.WriteFault.TheVariants as write
+use Rattle.plist_write.specs.Canonical.{canon}
+use Rattle.plist_write.specs.declared.faults.WriteFault.{WriteFault}
+use Rattle.plist_write.specs.declared.faults.WriteFault.TheVariants as write
 use Rattle.plist_forms.specs.Output.{IsOutput, IsOutputFault}
 use Rattle.plist_forms.specs.Sent.{answer_of}
 use Rattle.plist_forms.specs.Transfer.{IsInput, IsTransfer, Writes}

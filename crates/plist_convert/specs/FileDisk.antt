@@ -16,8 +16,8 @@ abbrev pub limit_of : {O H : Type 0} → (O → ℕ) → FileDisk O H → ℕ
 limit_of limit disk = limit disk.opener
 
 -- the number of devices that failed, up to the maximum
-abbrev pub failures_of : {O H : Type 0} → FileDisk O H → ℕ
-failures_of disk = disk.failures
+abbrev pub disk_failures : {O H : Type 0} → FileDisk O H → ℕ
+disk_failures disk = disk.failures
 
 -- The output for the bytes is longer than the maximum size of a file, and that many bytes were
 -- sent.

@@ -7,8 +7,8 @@ use Rattle.plist_forms.specs.declared.faults.Fault.TheVariants.{ReadFailed, Writ
 use Rattle.plist_forms.specs.declared.faults.Fault.TheVariants.{InputTooLarge, OutOfMemory}
 use Rattle.plist_forms.specs.declared.forms.Form.{Form}
 use Rattle.plist_forms.specs.declared.loading.TheConstants.{MAX_INPUT}
-use Rattle.plist_engine.specs.declared.faults.WriteFault.{WriteFault}
-use Rattle.plist_engine.specs.Sending.{IsBlamed, IsShort, sent_of}
+use Rattle.plist_write.specs.declared.faults.WriteFault.{WriteFault}
+use Rattle.plist_write.specs.Sending.{IsBlamed, IsShort, sent_of}
 use Rattle.plist_forms.specs.Output.{IsOutput, IsOutputFault}
 use Rattle.plist_forms.specs.Sent.{answer_of}
 
@@ -21,8 +21,8 @@ abbrev pub Files : Type 0
 Files = FileName → Option (List ℕ)
 
 -- the path has these bytes, if the disk knows its files
-abbrev pub Holds : Option Files → FileName → List ℕ → Type 0
-Holds files path octets = IfSome files (λ at. at path ≡ Some octets)
+abbrev pub FileHolds : Option Files → FileName → List ℕ → Type 0
+FileHolds files path octets = IfSome files (λ at. at path ≡ Some octets)
 
 -- there is no file at the path, if the disk knows its files
 abbrev pub Lacks : Option Files → FileName → Type 0

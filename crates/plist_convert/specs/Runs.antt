@@ -11,11 +11,11 @@ use Rattle.plist_forms.specs.declared.faults.Fault.{Fault}
 use Rattle.plist_forms.specs.declared.faults.Fault.TheVariants as refusal_kind
 use Rattle.plist_forms.specs.declared.forms.Form.{Form}
 use Rattle.plist_forms.specs.declared.loading.TheConstants.{MAX_INPUT}
-use Rattle.plist_engine.specs.Sending.{IsWritten}
-use Rattle.plist_engine.specs.declared.faults.WriteFault.{WriteFault}
+use Rattle.plist_write.specs.Sending.{IsWritten}
+use Rattle.plist_write.specs.declared.faults.WriteFault.{WriteFault}
 use Rattle.plist_forms.specs.Output.{IsOutput}
 use Rattle.plist_forms.specs.Transfer.{IsInput}
-use Rattle.plist_convert.specs.Files.{FileName, Holds, IsStored, IsUnloaded, SameFiles}
+use Rattle.plist_convert.specs.Files.{FileName, FileHolds, IsStored, IsUnloaded, SameFiles}
 use Rattle.plist_convert.specs.Answer.{IsCheckAnswerOf, IsLintAnswer, IsOutputRefusal}
 use Rattle.plist_convert.specs.Answer.{IsRefusedAnswer, IsSameAnswer, Said, explained_said, refusal}
 use Rattle.plist_convert.specs.Ending.{Ends, HaveFailed}
@@ -32,7 +32,7 @@ pub record IsUnread (path : FileName) (before after : State) (status : ℕ) : Ty
 pub record IsAnswered (Answers : List ℕ → Said → Type 0) (path : FileName) (before after : State)
     (status : ℕ) : Type 0 where
   pub octets : List ℕ
-  pub stands : Holds before.files path octets
+  pub stands : FileHolds before.files path octets
   pub said : Said
   pub answers : Answers octets said
   pub kept : SameFiles before.files after.files
@@ -92,15 +92,15 @@ IsLintRun = IsRunOfEach IsLinted
 pub record IsSecondUnread (first second : FileName) (before after : State)
     (status : ℕ) : Type 0 where
   pub octets : List ℕ
-  pub stands : Holds before.files first octets
+  pub stands : FileHolds before.files first octets
   pub unread : IsUnread second before after status
 
 -- The result for the bytes at the two paths is printed.
 pub record IsCompared (first second : FileName) (before after : State) (status : ℕ) : Type 0 where
   pub a : List ℕ
   pub b : List ℕ
-  pub first_stands : Holds before.files first a
-  pub second_stands : Holds before.files second b
+  pub first_stands : FileHolds before.files first a
+  pub second_stands : FileHolds before.files second b
   pub said : Said
   pub answers : IsSameAnswer first second a b said
   pub kept : SameFiles before.files after.files
@@ -143,7 +143,7 @@ pub record IsStoreRun (from to : FileName) (file : List ℕ) (before after : Sta
 pub record IsConverted (form : Form) (from to : FileName) (before after : State)
     (status : ℕ) : Type 0 where
   pub octets : List ℕ
-  pub stands : Holds before.files from octets
+  pub stands : FileHolds before.files from octets
   pub file : List ℕ
   pub of : IsOutput form octets file
   pub stored : IsStoreRun from to file before after status
@@ -164,7 +164,7 @@ standard = codes "-"
 -- printed and the failures of printing so far.
 pub record IsPrintedRun (path : FileName) (before after : State) (status : ℕ) : Type 0 where
   pub octets : List ℕ
-  pub stands : Holds before.files path octets
+  pub stands : FileHolds before.files path octets
   pub kept : SameFiles before.files after.files
   pub unfailed : after.disk_failures ≡ before.disk_failures
   pub text : List ℕ

@@ -25,7 +25,7 @@ pub(crate) struct Target<'p> {
 }
 
 /// What a type knows of a file that is to be created.
-pub(crate) trait Place {
+pub(crate) trait KnownTarget {
     // Its path.
     ghost path: { FileName };
 
@@ -36,7 +36,7 @@ pub(crate) trait Place {
     ghost limit: { ℕ };
 }
 
-impl Place for Brand {
+impl KnownTarget for Brand {
     ghost path = { [] };
 
     ghost files = { None };
@@ -47,14 +47,14 @@ impl Place for Brand {
 /// The file at a path. It is created or emptied by the first put of a piece that is not empty. Once
 /// a put has failed, every put fails; `needs_memory` tells whether the first ran out of memory.
 #[derive(Drop)]
-pub(crate) struct CreatedFile<'o, 'p, O: Opens, K: Place> {
+pub(crate) struct CreatedFile<'o, 'p, O: Opens, K: KnownTarget> {
     alloc: Global,
     pub(crate) opener: &'o mut O,
     path: &'p str,
     pub(crate) created: Option<Created<'p, O::Writer>>,
     failures: u64,
     pub(crate) needs_memory: bool,
-    place: PhantomData<K>,
+    target: PhantomData<K>,
     ghost known: { path.now ≡ K.path },
     ghost placed: { ForSome created (λ created. created.path.now ≡ K.path) },
     ghost begun: { is_begun K.files (option_map (written_of O.Writer.contents) created) ≡ true },
@@ -67,7 +67,7 @@ pub(crate) struct CreatedFile<'o, 'p, O: Opens, K: Place> {
         (taken_by O.Writer.contents K.files created) } by { full-prop _ _ },
 }
 
-impl<'o, 'p, O: Opens, K: Place> CreatedFile<'o, 'p, O, K> {
+impl<'o, 'p, O: Opens, K: KnownTarget> CreatedFile<'o, 'p, O, K> {
     /// Returns the file at the path, which is unchanged so far.
     pub(crate) fn new(alloc: Global, opener: &'o mut O, path: &'p str) -> CreatedFile<'o, 'p, O, K>
         requires path { path.now ≡ K.path }
@@ -84,12 +84,12 @@ impl<'o, 'p, O: Opens, K: Place> CreatedFile<'o, 'p, O, K> {
             created: None,
             failures: 0,
             needs_memory: false,
-            place: PhantomData,
+            target: PhantomData,
         }
     }
 }
 
-impl<O: Opens, K: Place> Sink for CreatedFile<'_, '_, O, K> {
+impl<O: Opens, K: KnownTarget> Sink for CreatedFile<'_, '_, O, K> {
     ghost taken = { λ file. taken_by O.Writer.contents K.files file.created };
 
     ghost failures = { λ file. file.failures };

@@ -1,7 +1,7 @@
 //! Storage for files.
 ghost use Rattle.std.specs.Prelude.{◌≡◌, ℕ, IfErr, IfOk, OnOk, Option};
 ghost use Rattle.plist_forms.specs.Load.{octets_or};
-ghost use Rattle.plist_convert.specs.Files.{CountsFailure, Files, Holds, IsUnloaded, SameFiles};
+ghost use Rattle.plist_convert.specs.Files.{CountsFailure, Files, FileHolds, IsUnloaded, SameFiles};
 ghost use Rattle.plist_convert.specs.Files.{Stores};
 
 use plist_forms::{Fault, Form};
@@ -27,7 +27,7 @@ pub trait Disk {
     /// bytes; [`Fault::OutOfMemory`] (60).
     fn load(&mut self, alloc: Global, path: &str) -> Result<Vec<u8>, Fault>
         ensures kept { SameFiles (files self.old) (files self.new) }
-        ensures found { IfOk result (λ octets. Holds (files self.old) path.now octets.items) }
+        ensures found { IfOk result (λ octets. FileHolds (files self.old) path.now octets.items) }
         ensures unfailed { OnOk result (failures self.new ≡ failures self.old) }
         ensures refused { IfErr result
             (IsUnloaded (files self.old) path.now (failures self.old) (failures self.new)) };
@@ -46,7 +46,7 @@ pub trait Disk {
     ) -> Result<Option<Vec<u8>>, Fault>
         ensures kept { SameFiles (files self.old) (files self.new) }
         ensures found { IfOk result (λ found.
-            Holds (files self.old) path.now (octets_or known.now found)) }
+            FileHolds (files self.old) path.now (octets_or known.now found)) }
         ensures unfailed { OnOk result (failures self.new ≡ failures self.old) }
         ensures refused { IfErr result
             (IsUnloaded (files self.old) path.now (failures self.old) (failures self.new)) };

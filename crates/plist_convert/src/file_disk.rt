@@ -3,11 +3,11 @@ ghost use Rattle.std.specs.Prelude.{◌≡◌, ◌≤◌, false, IfErr, IfOk, If
 ghost use Rattle.std.specs.Prelude.{IsErrOf, option_map};
 ghost use Rattle.plist_forms.specs.Load.{octets_or};
 ghost use Rattle.plist_convert.specs.FileDisk.{IsFullAt, told};
-ghost use Rattle.plist_convert.specs.Files.{Holds, IsUnloaded, SameFiles, Stores};
+ghost use Rattle.plist_convert.specs.Files.{FileHolds, IsUnloaded, SameFiles, Stores};
 ghost use Rattle.plist_convert.specs.Opens.{CountsUnread, Creates, HasFailing, IsUnfound};
 ghost use Rattle.plist_convert.specs.Opens.{IsUnopenedAs, Settles, written_of};
 
-use crate::created_file::{CreatedFile, Place, Target};
+use crate::created_file::{CreatedFile, KnownTarget, Target};
 use crate::disks::{Disk, failures_after};
 use crate::opens::{Created, Opens, Steady};
 use plist_forms::{Fault, Form, convert_octets, load_unless};
@@ -29,13 +29,13 @@ pub struct FileDisk<O, H> {
 }
 
 impl<O: Opens, H: BuildHasher + Copy> FileDisk<O, H> {
-    ghost use Rattle.plist_convert.specs.FileDisk.{failures_of, files_of, limit_of};
+    ghost use Rattle.plist_convert.specs.FileDisk.{disk_failures, files_of, limit_of};
 
     /// Returns a disk with the files of this opener.
     pub fn over(opener: O, hasher: H) -> FileDisk<O, H>
         ensures files { files_of O.files result ≡ O.files opener }
         ensures limit { limit_of O.limit result ≡ O.limit opener }
-        ensures failures { failures_of result ≡ 0 }
+        ensures failures { disk_failures result ≡ 0 }
     {
         FileDisk {
             opener,
@@ -46,19 +46,19 @@ impl<O: Opens, H: BuildHasher + Copy> FileDisk<O, H> {
 }
 
 impl<O: Steady, H: BuildHasher + Copy> Disk for FileDisk<O, H> {
-    ghost use Rattle.plist_convert.specs.FileDisk.{failures_of, files_of, limit_of};
+    ghost use Rattle.plist_convert.specs.FileDisk.{disk_failures, files_of, limit_of};
 
     ghost files = { files_of O.files };
 
-    ghost failures = { failures_of };
+    ghost failures = { disk_failures };
 
     fn load(&mut self, alloc: Global, path: &str) -> Result<Vec<u8>, Fault>
         ensures kept { SameFiles (files_of O.files self.old) (files_of O.files self.new) }
         ensures found { IfOk result (λ octets.
-            Holds (files_of O.files self.old) path.now octets.items) }
-        ensures unfailed { OnOk result (failures_of self.new ≡ failures_of self.old) }
+            FileHolds (files_of O.files self.old) path.now octets.items) }
+        ensures unfailed { OnOk result (disk_failures self.new ≡ disk_failures self.old) }
         ensures refused { IfErr result (IsUnloaded (files_of O.files self.old) path.now
-            (failures_of self.old) (failures_of self.new)) }
+            (disk_failures self.old) (disk_failures self.new)) }
         ensures missing { IfSome (files_of O.files self.old)
             (λ at. at path.now ≡ None → IsErrOf result Fault.ReadFailed) }
         ensures limit { limit_of O.limit self.new ≡ limit_of O.limit self.old }
@@ -77,10 +77,10 @@ impl<O: Steady, H: BuildHasher + Copy> Disk for FileDisk<O, H> {
     ) -> Result<Option<Vec<u8>>, Fault>
         ensures kept { SameFiles (files_of O.files self.old) (files_of O.files self.new) }
         ensures found { IfOk result (λ found.
-            Holds (files_of O.files self.old) path.now (octets_or known.now found)) }
-        ensures unfailed { OnOk result (failures_of self.new ≡ failures_of self.old) }
+            FileHolds (files_of O.files self.old) path.now (octets_or known.now found)) }
+        ensures unfailed { OnOk result (disk_failures self.new ≡ disk_failures self.old) }
         ensures refused { IfErr result (IsUnloaded (files_of O.files self.old) path.now
-            (failures_of self.old) (failures_of self.new)) }
+            (disk_failures self.old) (disk_failures self.new)) }
         ensures missing { IfSome (files_of O.files self.old)
             (λ at. at path.now ≡ None → IsErrOf result Fault.ReadFailed) }
         ensures limit { limit_of O.limit self.new ≡ limit_of O.limit self.old }
@@ -99,7 +99,7 @@ impl<O: Steady, H: BuildHasher + Copy> Disk for FileDisk<O, H> {
     ) -> Result<u64, Fault>
         ensures stores { Stores form octets.items
             (files_of O.files self.old) (files_of O.files self.new)
-            (failures_of self.old) (failures_of self.new) path.now result }
+            (disk_failures self.old) (disk_failures self.new) path.now result }
         ensures limit { limit_of O.limit self.new ≡ limit_of O.limit self.old }
 
         // A file never exceeds its maximum size, and the device fails only if an output does.
@@ -110,7 +110,7 @@ impl<O: Steady, H: BuildHasher + Copy> Disk for FileDisk<O, H> {
     {
         let opener = &mut self.opener;
         let target = Target { path };
-        let (created, sent, needs_memory) = create::<O, H, Brand>(
+        let (created, sent, needs_memory) = write_target::<O, H, Brand>(
             opener,
             alloc,
             self.hasher,
@@ -142,7 +142,7 @@ fn octets_at<O: Opens>(
     known: &[u8],
 ) -> Result<Option<Vec<u8>>, Fault>
     ensures found { IfOk result (λ found.
-        Holds (O.files opener.now) path.now (octets_or known.now found)) }
+        FileHolds (O.files opener.now) path.now (octets_or known.now found)) }
     ensures refused { IfErr result
         (IsUnfound (O.files opener.now) path.now (HasFailing O.Reader.failures)) }
     ensures missing { IfSome (O.files opener.now)
@@ -180,7 +180,7 @@ fn failures_after_load(failures: u64, found: &Result<Option<Vec<u8>>, Fault>) ->
 /// Converts the bytes to this form and writes the output to the file of the target, which is
 /// created at the first write. Returns the file if it was created, the result of
 /// [`convert_octets`], and whether memory ran out for the file.
-fn create<'p, O: Opens, H: BuildHasher + Copy, K: Place>(
+fn write_target<'p, O: Opens, H: BuildHasher + Copy, K: KnownTarget>(
     opener: &mut O,
     alloc: Global,
     hasher: H,

@@ -65,14 +65,14 @@ impl<R: Files> Steady for HostFiles<'_, R> {
 }
 
 impl<'a, R: Files, H: BuildHasher + Copy> FileDisk<HostFiles<'a, R>, H> {
-    ghost use Rattle.plist_convert.specs.FileDisk.{failures_of};
+    ghost use Rattle.plist_convert.specs.FileDisk.{disk_failures};
 
     /// Returns the files that this runtime can access. Scalars are hashed with the hasher of this
     /// builder. If somebody else chooses what is converted, pass a
     /// [`RandomState`](std::hash::RandomState): scalars chosen to collide under [`FixedHasher`]
     /// then cost no more than others.
     pub fn new(rt: &'a R, hasher: H) -> FileDisk<HostFiles<'a, R>, H>
-        ensures { failures_of result ≡ 0 }
+        ensures { disk_failures result ≡ 0 }
     {
         FileDisk::over(HostFiles { rt }, hasher)
     }

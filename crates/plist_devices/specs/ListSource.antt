@@ -8,8 +8,8 @@ abbrev pub octets_left : ListSource → List ℕ
 octets_left source = source.rest.now
 
 -- the number of bytes that a take gives at most
-abbrev pub step_of : ListSource → ℕ
-step_of source = source.step
+abbrev pub source_step : ListSource → ℕ
+source_step source = source.step
 
 -- the number of the take that is to fail, if there is one
 abbrev pub failing_take : ListSource → Option ℕ
@@ -20,8 +20,8 @@ abbrev pub takes_made : ListSource → ℕ
 takes_made source = source.takes
 
 -- the number of takes that failed
-abbrev pub failures_of : ListSource → ℕ
-failures_of source = source.failures
+abbrev pub list_source_failures : ListSource → ℕ
+list_source_failures source = source.failures
 
 -- the next take is the one that is to fail, or its number is above the maximum
 abbrev pub FailsNext : ListSource → Type 0

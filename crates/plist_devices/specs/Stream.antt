@@ -8,13 +8,13 @@ abbrev pub device_now : {O : Type 0} → Stream O → O
 device_now stream = stream.device.now
 
 -- the bytes taken, if the device knows them
-abbrev pub octets_taken : {O : Type 0} → (O → Option (List ℕ)) → Stream O → Option (List ℕ)
-octets_taken contents stream = contents (device_now stream)
+abbrev pub stream_taken : {O : Type 0} → (O → Option (List ℕ)) → Stream O → Option (List ℕ)
+stream_taken contents stream = contents (device_now stream)
 
 -- the borrowed device
-abbrev pub device_of : {O : Type 0} → Stream O → Option GName
-device_of stream = Some stream.device.ghost_name
+abbrev pub stream_device : {O : Type 0} → Stream O → Option GName
+stream_device stream = Some stream.device.ghost_name
 
 -- the number of puts that failed, up to the maximum
-abbrev pub failures_of : {O : Type 0} → Stream O → ℕ
-failures_of stream = stream.failures
+abbrev pub stream_failures : {O : Type 0} → Stream O → ℕ
+stream_failures stream = stream.failures

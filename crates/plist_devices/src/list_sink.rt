@@ -20,7 +20,7 @@ pub struct ListSink {
 }
 
 impl ListSink {
-    ghost use Rattle.plist_devices.specs.ListSink.{octets_taken, room_of, step_of, failures_of};
+    ghost use Rattle.plist_devices.specs.ListSink.{list_sink_taken, sink_room, sink_step, list_sink_failures};
     ghost use Rattle.plist_devices.specs.ListSink.{FailsAt};
 
     /// Creates an empty sink and reserves memory for `room` bytes. `step` must be above 0.
@@ -30,10 +30,10 @@ impl ListSink {
     /// Fails if out of memory.
     pub fn new(alloc: Global, room: usize, step: usize) -> Result<ListSink, AllocError>
         requires { 0 < step }
-        ensures taken { IfOk result (λ sink. octets_taken sink ≡ []) }
-        ensures room { IfOk result (λ sink. room_of sink ≡ room) }
-        ensures step { IfOk result (λ sink. step_of sink ≡ step) }
-        ensures failures { IfOk result (λ sink. failures_of sink ≡ 0) }
+        ensures taken { IfOk result (λ sink. list_sink_taken sink ≡ []) }
+        ensures room { IfOk result (λ sink. sink_room sink ≡ room) }
+        ensures step { IfOk result (λ sink. sink_step sink ≡ step) }
+        ensures failures { IfOk result (λ sink. list_sink_failures sink ≡ 0) }
     {
         Ok(ListSink {
             octets: Vec::with_capacity(alloc, room)?,
@@ -45,7 +45,7 @@ impl ListSink {
 
     /// Returns the bytes taken so far.
     pub fn taken(&self) -> &[u8]
-        ensures { result.now ≡ octets_taken self.now }
+        ensures { result.now ≡ list_sink_taken self.now }
     {
         self.octets.as_slice()
     }
@@ -60,22 +60,22 @@ impl ListSink {
 }
 
 impl Sink for ListSink {
-    ghost use Rattle.plist_devices.specs.ListSink.{octets_taken, room_of, step_of, failures_of};
+    ghost use Rattle.plist_devices.specs.ListSink.{list_sink_taken, sink_room, sink_step, list_sink_failures};
     ghost use Rattle.plist_devices.specs.ListSink.{FailsAt};
 
-    ghost taken = { λ sink. Some (octets_taken sink) };
+    ghost taken = { λ sink. Some (list_sink_taken sink) };
 
-    ghost failures = { failures_of };
+    ghost failures = { list_sink_failures };
 
     fn put(&mut self, piece: &[u8]) -> Result<usize, DeviceFault>
-        ensures put { IsPut (Some (octets_taken self.old)) (Some (octets_taken self.new))
-            (failures_of self.old) (failures_of self.new) result piece.now }
+        ensures put { IsPut (Some (list_sink_taken self.old)) (Some (list_sink_taken self.new))
+            (list_sink_failures self.old) (list_sink_failures self.new) result piece.now }
         ensures fails { IsErr result ↔ FailsAt self.old piece.now }
         ensures count { IfOk result (λ n. n
-            ≡ min (min (step_of self.old) (length piece.now))
-            (room_of self.old - length (octets_taken self.old))) }
-        ensures room { room_of self.new ≡ room_of self.old }
-        ensures step { step_of self.new ≡ step_of self.old }
+            ≡ min (min (sink_step self.old) (length piece.now))
+            (sink_room self.old - length (list_sink_taken self.old))) }
+        ensures room { sink_room self.new ≡ sink_room self.old }
+        ensures step { sink_step self.new ≡ sink_step self.old }
     {
         if self.fails_at(piece) {
             self.failures = self.failures.saturating_add(1);

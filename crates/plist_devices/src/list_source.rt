@@ -20,18 +20,18 @@ pub struct ListSource<'a> {
 }
 
 impl<'a> ListSource<'a> {
-    ghost use Rattle.plist_devices.specs.ListSource.{octets_left, step_of, failing_take};
-    ghost use Rattle.plist_devices.specs.ListSource.{takes_made, failures_of, FailsNext};
+    ghost use Rattle.plist_devices.specs.ListSource.{octets_left, source_step, failing_take};
+    ghost use Rattle.plist_devices.specs.ListSource.{takes_made, list_source_failures, FailsNext};
 
     /// Creates a source of `octets` that gives at most `step` bytes per take. Take number
     /// `fail_at`, counted from 1, fails, and so does every take after number 2^64 - 1.
     pub fn new(octets: &'a [u8], step: usize, fail_at: Option<u64>) -> ListSource<'a>
         requires { 0 < step }
         ensures octets { octets_left result ≡ octets.entry.now }
-        ensures step { step_of result ≡ step }
+        ensures step { source_step result ≡ step }
         ensures fail_at { failing_take result ≡ fail_at }
         ensures takes { takes_made result ≡ 0 }
-        ensures failures { failures_of result ≡ 0 }
+        ensures failures { list_source_failures result ≡ 0 }
     {
         ListSource {
             rest: octets,
@@ -53,24 +53,24 @@ impl<'a> ListSource<'a> {
 }
 
 impl Source for ListSource<'_> {
-    ghost use Rattle.plist_devices.specs.ListSource.{octets_left, step_of, failing_take};
-    ghost use Rattle.plist_devices.specs.ListSource.{takes_made, failures_of, FailsNext};
+    ghost use Rattle.plist_devices.specs.ListSource.{octets_left, source_step, failing_take};
+    ghost use Rattle.plist_devices.specs.ListSource.{takes_made, list_source_failures, FailsNext};
 
     ghost remaining = { λ source. Some (octets_left source) };
 
-    ghost failures = { failures_of };
+    ghost failures = { list_source_failures };
 
     fn take(&mut self, into: &mut [u8]) -> Result<usize, DeviceFault>
         ensures take { IsTake (Some (octets_left self.old)) (Some (octets_left self.new))
-            (failures_of self.old) (failures_of self.new) result into.new }
+            (list_source_failures self.old) (list_source_failures self.new) result into.new }
         ensures fails { IsErr result ↔ FailsNext self.old }
         ensures given { IfOk result (λ given. given
-            ≡ min (min (step_of self.old) (length into.old)) (length (octets_left self.old))) }
+            ≡ min (min (source_step self.old) (length into.old)) (length (octets_left self.old))) }
         ensures buffer { IfOk result (λ given.
             into.new ≡ take given (octets_left self.old) ++ drop given into.old) }
         ensures untouched { OnErr result (into.new ≡ into.old) }
         ensures takes { takes_made self.new ≡ one_more (takes_made self.old) }
-        ensures step { step_of self.new ≡ step_of self.old }
+        ensures step { source_step self.new ≡ source_step self.old }
         ensures fail_at { failing_take self.new ≡ failing_take self.old }
     {
         let fails = self.fails_next();

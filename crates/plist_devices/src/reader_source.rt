@@ -17,12 +17,12 @@ pub struct ReaderSource<R> {
 }
 
 impl<R: Read> ReaderSource<R> {
-    ghost use Rattle.plist_devices.specs.ReaderSource.{octets_to_come, failures_of};
+    ghost use Rattle.plist_devices.specs.ReaderSource.{octets_to_come, reader_failures};
 
     /// Creates a source that reads from `device`.
     pub fn new(device: R) -> ReaderSource<R>
         ensures octets { octets_to_come R.remaining result ≡ R.remaining device }
-        ensures failures { failures_of result ≡ 0 }
+        ensures failures { reader_failures result ≡ 0 }
     {
         ReaderSource {
             device,
@@ -32,20 +32,20 @@ impl<R: Read> ReaderSource<R> {
 }
 
 impl<D: ReadDevice> Source for ReaderSource<D> {
-    ghost use Rattle.plist_devices.specs.ReaderSource.{device_of, octets_to_come, failures_of};
+    ghost use Rattle.plist_devices.specs.ReaderSource.{reader_device, octets_to_come, reader_failures};
 
     ghost remaining = { octets_to_come D.remaining };
 
-    ghost failures = { failures_of };
+    ghost failures = { reader_failures };
 
     fn take(&mut self, into: &mut [u8]) -> Result<usize, DeviceFault>
         ensures take { IsTake (octets_to_come D.remaining self.old)
             (octets_to_come D.remaining self.new)
-            (failures_of self.old) (failures_of self.new) result into.new }
+            (reader_failures self.old) (reader_failures self.new) result into.new }
         // A take is one read of the device. It fails if the read fails or the count is at its
         // maximum.
-        ensures read { failures_of self.old < count_limit
-            → D.read_gives (device_of self.old) (device_of self.new) into.new result }
+        ensures read { reader_failures self.old < count_limit
+            → D.read_gives (reader_device self.old) (reader_device self.new) into.new result }
     {
         if self.failures == u64::MAX {
             return Err(DeviceFault);

@@ -18,13 +18,13 @@ pub struct Stream<'a, O> {
 }
 
 impl<'a, O: Write> Stream<'a, O> {
-    ghost use Rattle.plist_devices.specs.Stream.{device_of, octets_taken, failures_of};
+    ghost use Rattle.plist_devices.specs.Stream.{stream_device, stream_taken, stream_failures};
 
     /// Creates a sink that writes to `device`.
     pub fn new(device: &'a mut O) -> Stream<'a, O>
-        ensures device { device_of result ≡ Some device.entry.ghost_name }
-        ensures taken { octets_taken O.contents result ≡ O.contents device.old }
-        ensures failures { failures_of result ≡ 0 }
+        ensures device { stream_device result ≡ Some device.entry.ghost_name }
+        ensures taken { stream_taken O.contents result ≡ O.contents device.old }
+        ensures failures { stream_failures result ≡ 0 }
     {
         Stream {
             device,
@@ -34,21 +34,21 @@ impl<'a, O: Write> Stream<'a, O> {
 }
 
 impl<D: WriteDevice> Sink for Stream<'_, D> {
-    ghost use Rattle.plist_devices.specs.Stream.{device_now, device_of, octets_taken, failures_of};
+    ghost use Rattle.plist_devices.specs.Stream.{device_now, stream_device, stream_taken, stream_failures};
 
-    ghost taken = { octets_taken D.contents };
+    ghost taken = { stream_taken D.contents };
 
-    ghost failures = { failures_of };
+    ghost failures = { stream_failures };
 
-    ghost device = { device_of };
+    ghost device = { stream_device };
 
     fn put(&mut self, piece: &[u8]) -> Result<usize, DeviceFault>
-        ensures put { IsPut (octets_taken D.contents self.old) (octets_taken D.contents self.new)
-            (failures_of self.old) (failures_of self.new) result piece.now }
-        ensures same { device_of self.new ≡ device_of self.old }
+        ensures put { IsPut (stream_taken D.contents self.old) (stream_taken D.contents self.new)
+            (stream_failures self.old) (stream_failures self.new) result piece.now }
+        ensures same { stream_device self.new ≡ stream_device self.old }
         // A put is one write of the device. It fails if the write fails or the count is at its
         // maximum.
-        ensures write { failures_of self.old < count_limit
+        ensures write { stream_failures self.old < count_limit
             → IsOneWrite D.write_gives (device_now self.old) (device_now self.new)
             piece.now result }
     {

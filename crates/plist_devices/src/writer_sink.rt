@@ -17,12 +17,12 @@ pub struct WriterSink<W> {
 }
 
 impl<W: Write> WriterSink<W> {
-    ghost use Rattle.plist_devices.specs.WriterSink.{octets_taken, failures_of};
+    ghost use Rattle.plist_devices.specs.WriterSink.{writer_taken, writer_failures};
 
     /// Creates a sink that writes to `device`.
     pub fn new(device: W) -> WriterSink<W>
-        ensures taken { octets_taken W.contents result ≡ W.contents device }
-        ensures failures { failures_of result ≡ 0 }
+        ensures taken { writer_taken W.contents result ≡ W.contents device }
+        ensures failures { writer_failures result ≡ 0 }
     {
         WriterSink {
             device,
@@ -32,19 +32,20 @@ impl<W: Write> WriterSink<W> {
 }
 
 impl<D: WriteDevice> Sink for WriterSink<D> {
-    ghost use Rattle.plist_devices.specs.WriterSink.{device_of, octets_taken, failures_of};
+    ghost use Rattle.plist_devices.specs.WriterSink.{writer_device, writer_taken, writer_failures};
 
-    ghost taken = { octets_taken D.contents };
+    ghost taken = { writer_taken D.contents };
 
-    ghost failures = { failures_of };
+    ghost failures = { writer_failures };
 
     fn put(&mut self, piece: &[u8]) -> Result<usize, DeviceFault>
-        ensures put { IsPut (octets_taken D.contents self.old) (octets_taken D.contents self.new)
-            (failures_of self.old) (failures_of self.new) result piece.now }
+        ensures put { IsPut (writer_taken D.contents self.old) (writer_taken D.contents self.new)
+            (writer_failures self.old) (writer_failures self.new) result piece.now }
         // A put is one write of the device. It fails if the write fails or the count is at its
         // maximum.
-        ensures write { failures_of self.old < count_limit
-            → IsOneWrite D.write_gives (device_of self.old) (device_of self.new) piece.now result }
+        ensures write { writer_failures self.old < count_limit
+            → IsOneWrite D.write_gives (writer_device self.old)
+            (writer_device self.new) piece.now result }
     {
         put_on(&mut self.device, &mut self.failures, piece)
     }

@@ -3,12 +3,12 @@ use Rattle.std.proofs.Common.{◌≡◌, ℕ, ◌<◌, List, [], ◌∷◌, ◌+
 use Rattle.std.proofs.lemmas.List.{get_or_append_left}
 use Rattle.std.proofs.lemmas.Option.{slice_get_within, get_or_from_slice_get, slice_get-get_or}
 use Rattle.plist_value.specs.Plist.{text, Plist, scalar, list, table, Items, no_items, item, Pairs, no_pairs, pair}
-use Rattle.plist_object.specs.Objects.{Held, holds_scalar}
+use Rattle.plist_object.specs.Objects.{Content, holds_scalar}
 use Rattle.plist_draft.specs.Encoded.{SpellsBy, SpellItemsBy, SpellPairsBy, HasContent}
 use Rattle.plist_draft.specs.Laws.{AppendingKeeps}
 
 -- the first description of each object implies the second
-module _ (HasContent_old HasContent_new : ℕ → Held → Type 0) (encoded : (i : ℕ) (held : Held) → HasContent_old i held → HasContent_new i held) where
+module _ (HasContent_old HasContent_new : ℕ → Content → Type 0) (encoded : (i : ℕ) (held : Content) → HasContent_old i held → HasContent_new i held) where
   mutual
     pub SpellsBy-encoded : (i : ℕ) (v : Plist) → SpellsBy HasContent_old i v → SpellsBy HasContent_new i v
     SpellsBy-encoded i (scalar s) h = encoded i (holds_scalar s) h
@@ -27,7 +27,7 @@ module _ (HasContent_old HasContent_new : ℕ → Held → Type 0) (encoded : (i
     SpellPairsBy-encoded (row ∷ rows) (pair key v ps) h =
         (encoded row.0 (holds_scalar (text key)) h.0, SpellsBy-encoded row.1 v h.1, SpellPairsBy-encoded rows ps h.2)
 
-pub HasContent-append : (helds more : List Held) (i : ℕ) (held : Held) → HasContent helds i held → HasContent (helds ++ more) i held
+pub HasContent-append : (helds more : List Content) (i : ℕ) (held : Content) → HasContent helds i held → HasContent (helds ++ more) i held
 HasContent-append helds more i held h =
     let within : i < length helds = slice_get_within helds i held h in
     let longer : i < length (helds ++ more) = omega (arith, length-append helds more) in
@@ -44,6 +44,6 @@ appending_keeps helds more =
     }
 
 -- the appended object is the last
-pub HasContent-last : (helds : List Held) (held : Held) → HasContent (helds ++ (held ∷ [])) (length helds) held
+pub HasContent-last : (helds : List Content) (held : Content) → HasContent (helds ++ (held ∷ [])) (length helds) held
 HasContent-last [] held = refl
 HasContent-last (first ∷ helds) held = HasContent-last helds held

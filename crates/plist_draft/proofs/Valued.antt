@@ -5,13 +5,13 @@ use Rattle.std.specs.List.Sorted.{IsPermutation}
 use Rattle.std.proofs.lemmas.List.{append-nil}
 use Rattle.std.proofs.lemmas.List.Sorted.{IsPermutation-refl}
 use Rattle.plist_value.specs.Plist.{text, Plist, scalar, Items, no_items, item, Pairs, no_pairs, pair, table}
-use Rattle.plist_object.specs.Objects.{Held}
+use Rattle.plist_object.specs.Objects.{Content}
 use Rattle.plist_draft.specs.Encoded.{Keeps, SpellsIn, SpellItemsIn, SpellPairsIn}
 
-pub Keeps-itself : (helds : List Held) → Keeps helds helds
+pub Keeps-itself : (helds : List Content) → Keeps helds helds
 Keeps-itself helds = record { value = λ i v h. h; items = λ refs vs h. h; pairs = λ rows ps h. h }
 
-pub Keeps-both : (first second third : List Held) → Keeps first second → Keeps second third → Keeps first third
+pub Keeps-both : (first second third : List Content) → Keeps first second → Keeps second third → Keeps first third
 Keeps-both first second third a b = record {
   value = λ i v h. b.value i v (a.value i v h);
   items = λ refs vs h. b.items refs vs (a.items refs vs h);
@@ -19,10 +19,10 @@ Keeps-both first second third a b = record {
 }
 
 -- If the remaining numbers encode the remaining items, then all numbers encode all items.
-pub record ItemsLeft (helds : List Held) (done : List ℕ) (left all : Items) : Type 0 where
-  pub ends : (later : List Held) (rest : List ℕ) → Keeps helds later → SpellItemsIn later rest left → SpellItemsIn later (done ++ rest) all
+pub record ItemsLeft (helds : List Content) (done : List ℕ) (left all : Items) : Type 0 where
+  pub ends : (later : List Content) (rest : List ℕ) → Keeps helds later → SpellItemsIn later rest left → SpellItemsIn later (done ++ rest) all
 
-pub items-next : (helds after : List Held) (done pushed : List ℕ) (n : ℕ) (v : Plist) (left rest all : Items) → Keeps helds after → SpellsIn after n v → left ≡ item v rest → pushed ≡ done ++ (n ∷ []) → ItemsLeft helds done left all → ItemsLeft after pushed rest all
+pub items-next : (helds after : List Content) (done pushed : List ℕ) (n : ℕ) (v : Plist) (left rest all : Items) → Keeps helds after → SpellsIn after n v → left ≡ item v rest → pushed ≡ done ++ (n ∷ []) → ItemsLeft helds done left all → ItemsLeft after pushed rest all
 items-next helds after done pushed n v left rest all keeps spells first added begun = record {
   ends = λ later refs keeps_later encoded.
       let moved : pushed ++ refs ≡ done ++ (n ∷ refs) = ap (λ (xs : List ℕ). xs ++ refs) added ∙ append_assoc done (n ∷ []) refs in
@@ -31,7 +31,7 @@ items-next helds after done pushed n v left rest all keeps spells first added be
       subst (λ (xs : List ℕ). SpellItemsIn later xs all) (sym moved) (begun.ends later (n ∷ refs) (Keeps-both helds after later keeps keeps_later) left_encoded);
 }
 
-pub items-end : (helds : List Held) (done : List ℕ) (left all : Items) → left ≡ no_items → ItemsLeft helds done left all → SpellItemsIn helds done all
+pub items-end : (helds : List Content) (done : List ℕ) (left all : Items) → left ≡ no_items → ItemsLeft helds done left all → SpellItemsIn helds done all
 items-end helds done left all none begun =
     let encoded : SpellItemsIn helds [] left = rw none refl in
     subst (λ (refs : List ℕ). SpellItemsIn helds refs all) (append-nil done) (begun.ends helds [] (Keeps-itself helds) encoded)
@@ -42,11 +42,11 @@ zip-last (w ∷ ws) (z ∷ zs) x y same = ap (λ (rows : List (ℕ × ℕ)). (w,
 zip-last _ _ x y same = absurd (omega arith)
 
 -- if the remaining numbers encode the remaining entries, then all numbers encode all entries
-pub record PairsLeft (helds : List Held) (keys values : List ℕ) (left all : Pairs) : Type 0 where
+pub record PairsLeft (helds : List Content) (keys values : List ℕ) (left all : Pairs) : Type 0 where
   pub same : length keys ≡ length values
-  pub ends : (later : List Held) (rest : List (ℕ × ℕ)) → Keeps helds later → SpellPairsIn later rest left → SpellPairsIn later (zip keys values ++ rest) all
+  pub ends : (later : List Content) (rest : List (ℕ × ℕ)) → Keeps helds later → SpellPairsIn later rest left → SpellPairsIn later (zip keys values ++ rest) all
 
-pub pairs-next : (helds between after : List Held) (keys values keys_pushed values_pushed : List ℕ) (k n : ℕ) (key : List ℕ) (v : Plist) (left rest all : Pairs) → Keeps helds between → SpellsIn between k (scalar (text key)) → Keeps between after → SpellsIn after n v → left ≡ pair key v rest → keys_pushed ≡ keys ++ (k ∷ []) → values_pushed ≡ values ++ (n ∷ []) → PairsLeft helds keys values left all → PairsLeft after keys_pushed values_pushed rest all
+pub pairs-next : (helds between after : List Content) (keys values keys_pushed values_pushed : List ℕ) (k n : ℕ) (key : List ℕ) (v : Plist) (left rest all : Pairs) → Keeps helds between → SpellsIn between k (scalar (text key)) → Keeps between after → SpellsIn after n v → left ≡ pair key v rest → keys_pushed ≡ keys ++ (k ∷ []) → values_pushed ≡ values ++ (n ∷ []) → PairsLeft helds keys values left all → PairsLeft after keys_pushed values_pushed rest all
 pairs-next helds between after keys values keys_pushed values_pushed k n key v left rest all keeps_first spells_key keeps spells first key_added value_added begun =
     let before = begun.same in
     let zipped : zip keys_pushed values_pushed ≡ zip keys values ++ ((k, n) ∷ []) = rw (key_added, value_added) (zip-last keys values k n before) in
@@ -60,12 +60,12 @@ pairs-next helds between after keys values keys_pushed values_pushed k n key v l
           subst (λ (xs : List (ℕ × ℕ)). SpellPairsIn later xs all) (sym moved) (begun.ends later ((k, n) ∷ rows) (Keeps-both helds between later keeps_first to_later) left_encoded);
     }
 
-pub pairs-end : (helds : List Held) (keys values : List ℕ) (left all : Pairs) → left ≡ no_pairs → PairsLeft helds keys values left all → SpellPairsIn helds (zip keys values) all
+pub pairs-end : (helds : List Content) (keys values : List ℕ) (left all : Pairs) → left ≡ no_pairs → PairsLeft helds keys values left all → SpellPairsIn helds (zip keys values) all
 pairs-end helds keys values left all none begun =
     let encoded : SpellPairsIn helds [] left = rw none refl in
     subst (λ (rows : List (ℕ × ℕ)). SpellPairsIn helds rows all) (append-nil (zip keys values)) (begun.ends helds [] (Keeps-itself helds) encoded)
 
 -- a dictionary of entries in order
-pub table-put : {E : Type 0} (helds after : List Held) (keys values : List ℕ) (ps : Pairs) (put : Result ℕ E) → SpellPairsIn helds (zip keys values) ps → IfOk put (λ number. (rows : List (ℕ × ℕ)) (qs : Pairs) → IsPermutation (zip keys values) rows → SpellPairsIn helds rows qs → SpellsIn after number (table qs)) → IfOk put (λ number. SpellsIn after number (table ps))
+pub table-put : {E : Type 0} (helds after : List Content) (keys values : List ℕ) (ps : Pairs) (put : Result ℕ E) → SpellPairsIn helds (zip keys values) ps → IfOk put (λ number. (rows : List (ℕ × ℕ)) (qs : Pairs) → IsPermutation (zip keys values) rows → SpellPairsIn helds rows qs → SpellsIn after number (table qs)) → IfOk put (λ number. SpellsIn after number (table ps))
 table-put helds after keys values ps (Ok number) encoded spells = spells (zip keys values) ps (IsPermutation-refl (zip keys values)) encoded
 table-put helds after keys values ps (Err error) encoded spells = tt

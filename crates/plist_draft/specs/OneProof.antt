@@ -7,7 +7,7 @@ use Rattle.std.proofs.Math.Dec.{T_prop}
 use Rattle.std.proofs.Math.Nat.{ℕ_set}
 use Rattle.plist_value.specs.Plist.{Scalar, text, whole, flag, real4, real8, moment, bytes}
 use Rattle.plist_value.specs.Plist.{AllUnder, IsScalar, IsWhole, IsOctetsOf}
-use Rattle.plist_object.specs.Objects.{Held, holds_scalar, holds_list, holds_table}
+use Rattle.plist_object.specs.Objects.{Content, holds_scalar, holds_list, holds_table}
 use Rattle.plist_object.specs.Sizes.{IsSmall}
 use Rattle.plist_draft.specs.Stored.{AreKept, IsKept, Stores, IsDraft, helds_at}
 
@@ -53,19 +53,20 @@ AreKept-prop refs =
       fit = AllUnder-prop 4294967296 refs a.fit b.fit i;
     }
 
-IsKept-prop : (held : Held) → IsProp (IsKept held)
+IsKept-prop : (held : Content) → IsProp (IsKept held)
 IsKept-prop (holds_scalar s) = ×_prop (IsScalar-prop s) (IsSmall-prop s)
 IsKept-prop (holds_list refs) = AreKept-prop refs
 IsKept-prop (holds_table keys values) =
     λ a b. λ i. (ℕ_set _ _ a.0 b.0 i, AreKept-prop keys a.1 b.1 i, AreKept-prop values a.2 b.2 i)
 
-Stores-prop : (octets places : List ℕ) (helds : List Held) → IsProp (Stores octets places helds)
-Stores-prop octets places helds =
+Stores-prop : (octets offsets : List ℕ) (helds : List Content)
+    → IsProp (Stores octets offsets helds)
+Stores-prop octets offsets helds =
     λ a b. λ i. record {
       spelled = Coded-set (coded_list coded_ℕ) _ _ a.spelled b.spelled i;
       placed = Coded-set (coded_list coded_ℕ) _ _ a.placed b.placed i;
       kept = AllByRecursion-prop IsKept IsKept-prop helds a.kept b.kept i;
     }
 
-pub IsDraft-prop : (octets places : List ℕ) → IsProp (IsDraft octets places)
-IsDraft-prop octets places = Stores-prop octets places (helds_at octets places)
+pub IsDraft-prop : (octets offsets : List ℕ) → IsProp (IsDraft octets offsets)
+IsDraft-prop octets offsets = Stores-prop octets offsets (helds_at octets offsets)

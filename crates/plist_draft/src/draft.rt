@@ -16,9 +16,9 @@ ghost use Rattle.plist_draft.specs.Stored.{AreKept, IsDraft, draft_file};
 ghost use Rattle.plist_draft.specs.OneProof.{IsDraft-prop};
 ghost use Rattle.plist_draft.specs.Encoded.{SpellsIn, SpellItemsIn, SpellPairsIn, Keeps, Shows};
 
-use crate::ends::{are_octets, put_places};
+use crate::ends::{are_octets, put_offsets};
 use crate::recent::{Recent, hash_of};
-use plist_object::{HEADER, put_scalar, put_short_list, put_short_table, put_trailer, short};
+use plist_object::{HEADER, put_scalar, put_short_list, put_short_table, put_trailer, to_u32};
 use plist_value::ScalarRef;
 use std::alloc::{AllocError, Global};
 
@@ -28,9 +28,9 @@ use std::alloc::{AllocError, Global};
 #[derive(Drop)]
 pub struct Draft {
     octets: Vec<u8>,
-    places: Vec<u32>,
+    offsets: Vec<u32>,
     recent: Recent,
-    ghost laid: { IsDraft octets.items places.items } by { IsDraft-prop octets.items places.items },
+    ghost laid: { IsDraft octets.items offsets.items } by { IsDraft-prop _ _ },
 }
 
 impl Draft {
@@ -47,7 +47,7 @@ impl Draft {
         let octets = Vec::from_slice(alloc, &HEADER)?;
         Ok(Draft {
             octets,
-            places: Vec::new(alloc),
+            offsets: Vec::new(alloc),
             recent: Recent::new(alloc),
         })
     }
@@ -68,9 +68,9 @@ impl Draft {
         ensures kept { Keeps (objects self.old) (objects self.new) }
         ensures refused { OnErr result (objects self.new ≡ objects self.old) }
     {
-        let (number, place) = self.begin()?;
+        let (number, offset) = self.begin()?;
         spell(&mut self.octets, scalar)?;
-        self.places.push_reserved(place);
+        self.offsets.push_reserved(offset);
         Ok(number)
     }
 
@@ -90,17 +90,17 @@ impl Draft {
         ensures kept { Keeps (objects self.old) (objects self.new) }
         ensures refused { OnErr result (objects self.new ≡ objects self.old) }
     {
-        self.recent.prepare(self.places.len())?;
-        let (number, place) = self.begin()?;
+        self.recent.prepare(self.offsets.len())?;
+        let (number, offset) = self.begin()?;
         spell(&mut self.octets, scalar)?;
-        let (before, spelled) = self.octets.split_at(place as usize);
+        let (before, spelled) = self.octets.split_at(offset as usize);
         let hash = hash_of(spelled);
-        if let Some(known) = self.recent.find(hash, spelled, before, &self.places) {
-            self.octets.truncate(place as usize);
+        if let Some(known) = self.recent.find(hash, spelled, before, &self.offsets) {
+            self.octets.truncate(offset as usize);
             return Ok(known);
         }
         self.recent.keep(hash, number);
-        self.places.push_reserved(place);
+        self.offsets.push_reserved(offset);
         Ok(number)
     }
 
@@ -121,9 +121,9 @@ impl Draft {
         ensures refused { OnErr result (objects self.new ≡ objects self.old) }
     {
         are_kept(items)?;
-        let (number, place) = self.begin()?;
+        let (number, offset) = self.begin()?;
         put_short_list(&mut self.octets, 4, items)?;
-        self.places.push_reserved(place);
+        self.offsets.push_reserved(offset);
         Ok(number)
     }
 
@@ -148,9 +148,9 @@ impl Draft {
     {
         are_kept(keys)?;
         are_kept(values)?;
-        let (number, place) = self.begin()?;
+        let (number, offset) = self.begin()?;
         put_short_table(&mut self.octets, 4, keys, values)?;
-        self.places.push_reserved(place);
+        self.offsets.push_reserved(offset);
         Ok(number)
     }
 
@@ -168,14 +168,14 @@ impl Draft {
     {
         let Draft {
             mut octets,
-            places,
+            offsets,
             ..
         } = self;
-        let count = places.len() as u64;
-        let place = octets.len() as u64;
-        octets.reserve_exact(4 * places.len() + 32)?;
-        put_places(&mut octets, &places)?;
-        put_trailer(&mut octets, 4, 4, count, u64::from(top), place)?;
+        let count = offsets.len() as u64;
+        let offset = octets.len() as u64;
+        octets.reserve_exact(4 * offsets.len() + 32)?;
+        put_offsets(&mut octets, &offsets)?;
+        put_trailer(&mut octets, 4, 4, count, u64::from(top), offset)?;
         are_octets(&octets);
         Ok(octets)
     }
@@ -183,15 +183,15 @@ impl Draft {
     // Returns the number and the offset of the next object, and reserves capacity for the offset.
     fn begin(&mut self) -> Result<(u32, u32), AllocError>
         ensures octets { self.new.octets.items ≡ self.old.octets.items }
-        ensures places { self.new.places.items ≡ self.old.places.items }
-        ensures next { IfOk result (λ next. next.0 ≡ length self.old.places.items) }
-        ensures place { IfOk result (λ next. next.1 ≡ length self.old.octets.items) }
-        ensures room { OnOk result (vec_len self.new.places < vec_capacity self.new.places) }
+        ensures offsets { self.new.offsets.items ≡ self.old.offsets.items }
+        ensures next { IfOk result (λ next. next.0 ≡ length self.old.offsets.items) }
+        ensures offset { IfOk result (λ next. next.1 ≡ length self.old.octets.items) }
+        ensures room { OnOk result (vec_len self.new.offsets < vec_capacity self.new.offsets) }
     {
-        let number = short(self.places.len() as u64)?;
-        let place = short(self.octets.len() as u64)?;
-        self.places.reserve(1)?;
-        Ok((number, place))
+        let number = to_u32(self.offsets.len() as u64)?;
+        let offset = to_u32(self.octets.len() as u64)?;
+        self.offsets.reserve(1)?;
+        Ok((number, offset))
     }
 }
 
@@ -199,7 +199,7 @@ impl Draft {
 fn are_kept(refs: &[u32]) -> Result<(), AllocError>
     ensures { IsOk result ↔ AreKept refs.now }
 {
-    short(refs.len() as u64)?;
+    to_u32(refs.len() as u64)?;
     Ok(())
 }
 
@@ -219,8 +219,8 @@ fn is_small(scalar: &ScalarRef) -> Result<(), AllocError>
     ensures { IsOk result ↔ IsSmall (content_of scalar.now) }
 {
     match scalar {
-        ScalarRef::Text(text) => short(text.len() as u64).map(|_| ()),
-        ScalarRef::Bytes(octets) => short(octets.len() as u64).map(|_| ()),
+        ScalarRef::Text(text) => to_u32(text.len() as u64).map(|_| ()),
+        ScalarRef::Bytes(octets) => to_u32(octets.len() as u64).map(|_| ()),
         _ => Ok(()),
     }
 }

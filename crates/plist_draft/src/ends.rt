@@ -7,12 +7,12 @@ use plist_object::put_number;
 use std::alloc::AllocError;
 
 /// Appends the offsets of the objects to `out`, in four bytes each.
-pub(crate) fn put_places(out: &mut Vec<u8>, places: &[u32]) -> Result<(), AllocError>
-    ensures put { OnOk result (out.new.items ≡ out.old.items ++ references 4 places.now) }
-    ensures fit { AllUnder 4294967296 places.now }
+pub(crate) fn put_offsets(out: &mut Vec<u8>, offsets: &[u32]) -> Result<(), AllocError>
+    ensures put { OnOk result (out.new.items ≡ out.old.items ++ references 4 offsets.now) }
+    ensures fit { AllUnder 4294967296 offsets.now }
 {
-    for place in places {
-        put_number(out, 4, u64::from(*place))?;
+    for offset in offsets {
+        put_number(out, 4, u64::from(*offset))?;
     }
     Ok(())
 }

@@ -62,13 +62,13 @@ impl Recent {
         hash: u32,
         spelled: &[u8],
         octets: &[u8],
-        places: &[u32],
+        offsets: &[u32],
     ) -> Option<u32>
         ensures { IfSome result (λ number.
-            StandsAgain octets.now places.now number spelled.now) }
+            StandsAgain octets.now offsets.now number spelled.now) }
     {
         let entry = self.slots.get(self.slot_of(hash))?;
-        if entry.hash == hash && stands_again(octets, places, entry.number, spelled) {
+        if entry.hash == hash && stands_again(octets, offsets, entry.number, spelled) {
             Some(entry.number)
         } else {
             None
@@ -92,13 +92,13 @@ pub(crate) fn hash_of(octets: &[u8]) -> u32 {
 }
 
 // Returns whether the object with this number begins with this encoding.
-fn stands_again(octets: &[u8], places: &[u32], number: u32, spelled: &[u8]) -> bool
-    ensures { OnTrue result (StandsAgain octets.now places.now number spelled.now) }
+fn stands_again(octets: &[u8], offsets: &[u32], number: u32, spelled: &[u8]) -> bool
+    ensures { OnTrue result (StandsAgain octets.now offsets.now number spelled.now) }
 {
-    let Some(place) = places.get(number as usize) else {
+    let Some(offset) = offsets.get(number as usize) else {
         return false;
     };
-    let start = *place as usize;
+    let start = *offset as usize;
     if start > octets.len() {
         return false;
     }

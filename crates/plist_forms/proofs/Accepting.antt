@@ -3,7 +3,7 @@ use Rattle.std.proofs.Common.{◌≡◌, ◌∙◌, true, false, inl, inr, refl,
 use Rattle.plist_value.specs.Plist.{Plist, IsPlist}
 use Rattle.plist_value.specs.Limits.{Fits}
 use Rattle.plist_object.specs.Laws.{OneValueAtTop}
-use Rattle.plist_engine.specs.Canonical.{canon}
+use Rattle.plist_write.specs.Canonical.{canon}
 use Rattle.ostep_text.specs.Laws as of_text
 use Rattle.ostep_text.specs.Text.{IsText}
 use Rattle.plist_forms.specs.Accepted.{IsAccepted, begins_as_binary}

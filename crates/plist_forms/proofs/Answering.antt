@@ -2,10 +2,10 @@
 use Rattle.std.proofs.Common.{◌≡◌, ◌++◌, ap, codes, inr, refl, subst, true, Err, List, Ok, Option, Result, ℕ}
 use Rattle.std.specs.Result.{IfErr, IsErrAnd}
 use Rattle.plist_value.specs.Plist.{Plist}
-use Rattle.plist_engine.specs.Canonical.{canon}
-use Rattle.plist_engine.specs.Sending.{IsWritten}
-use Rattle.plist_engine.specs.declared.faults.WriteFault.{WriteFault}
-use Rattle.plist_engine.specs.declared.faults.WriteFault.TheVariants as write
+use Rattle.plist_write.specs.Canonical.{canon}
+use Rattle.plist_write.specs.Sending.{IsWritten}
+use Rattle.plist_write.specs.declared.faults.WriteFault.{WriteFault}
+use Rattle.plist_write.specs.declared.faults.WriteFault.TheVariants as write
 use Rattle.plist_print.specs.Printed.{printed}
 use Rattle.plist_value.specs.Writable.{is_writable}
 use Rattle.ostep_text.specs.Written.{written}

@@ -3,7 +3,7 @@ use Rattle.std.specs.Prelude.{◌≡◌, ◌⊎◌, Bool, true, false, List, ℕ
 use Rattle.std.specs.List.{starts_with}
 use Rattle.plist_value.specs.Plist.{Plist}
 use Rattle.plist_object.specs.Spelled.{IsBinary}
-use Rattle.plist_engine.specs.Canonical.{canon}
+use Rattle.plist_write.specs.Canonical.{canon}
 use Rattle.ostep_text.specs.Text.{IsText}
 
 -- the bytes begin like a binary file of any version

@@ -12,8 +12,8 @@ use Rattle.ostep_text.specs.declared.fault.TextFault.{TextFault}
 use Rattle.ostep_text.specs.declared.fault.TextFault.TheVariants as text
 use Rattle.plist_canon.specs.declared.checking.CheckFault.{CheckFault}
 use Rattle.plist_canon.specs.declared.checking.CheckFault.TheVariants as check
-use Rattle.plist_engine.specs.declared.faults.WriteFault.{WriteFault}
-use Rattle.plist_engine.specs.declared.faults.WriteFault.TheVariants as write
+use Rattle.plist_write.specs.declared.faults.WriteFault.{WriteFault}
+use Rattle.plist_write.specs.declared.faults.WriteFault.TheVariants as write
 use Rattle.plist_forms.specs.declared.faults.Fault.{Fault}
 use Rattle.plist_forms.specs.declared.faults.Fault.TheVariants.{Binary, Text, NotInOpenStep}
 use Rattle.plist_forms.specs.declared.faults.Fault.TheVariants.{ReadFailed, WriteFailed}

@@ -1,7 +1,7 @@
 -- The output for an input: its value in one of the forms.
 use Rattle.std.specs.Prelude.{◌≡◌, ◌⊎◌, ℕ, List, None, Option, Some}
 use Rattle.plist_value.specs.Plist.{Plist}
-use Rattle.plist_engine.specs.Canonical.{canon}
+use Rattle.plist_write.specs.Canonical.{canon}
 use Rattle.ostep_text.specs.Written.{text_of}
 use Rattle.plist_forms.specs.Accepted.{IsAccepted}
 use Rattle.plist_forms.specs.Refusals.{IsRefused}

@@ -1,7 +1,7 @@
 -- Two inputs that are compared by their values.
 use Rattle.std.specs.Prelude.{◌≡◌, ◌↔◌, ℕ, List, ◌++◌, Bool, IsTrue, codes}
 use Rattle.plist_value.specs.Plist.{Plist}
-use Rattle.plist_engine.specs.Canonical.{canon}
+use Rattle.plist_write.specs.Canonical.{canon}
 use Rattle.plist_forms.specs.Accepted.{IsAccepted}
 use Rattle.plist_forms.specs.Fault.{code_of, fault_text}
 use Rattle.plist_forms.specs.Refusals.{IsRefused}

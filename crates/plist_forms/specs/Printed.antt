@@ -1,8 +1,8 @@
 -- What is printed for an input: the printed text of its value.
 use Rattle.std.specs.Prelude.{◌≡◌, ◌⊎◌, ℕ, List, Option, Result}
 use Rattle.plist_value.specs.Plist.{Plist}
-use Rattle.plist_engine.specs.Sending.{IsWritten}
-use Rattle.plist_engine.specs.declared.faults.WriteFault.{WriteFault}
+use Rattle.plist_write.specs.Sending.{IsWritten}
+use Rattle.plist_write.specs.declared.faults.WriteFault.{WriteFault}
 use Rattle.plist_print.specs.Printed.{printed}
 use Rattle.plist_forms.specs.Accepted.{IsAccepted}
 use Rattle.plist_forms.specs.Refusals.{IsRefused}

@@ -1,6 +1,6 @@
 -- The result of a call that sends bytes to a sink.
 use Rattle.std.specs.Prelude.{◌≡◌, ℕ, List, Option, Result, Err, Ok}
-use Rattle.plist_engine.specs.declared.faults.WriteFault.{WriteFault}
+use Rattle.plist_write.specs.declared.faults.WriteFault.{WriteFault}
 use Rattle.plist_forms.specs.Fault.{write_fault_for}
 use Rattle.plist_forms.specs.declared.faults.Fault.{Fault}
 use Rattle.plist_forms.specs.declared.faults.Fault.TheVariants.{OutOfMemory, WriteFailed}

@@ -1,8 +1,8 @@
 -- Transferring a property list from a source to a sink.
 use Rattle.std.specs.Prelude.{◌≡◌, ◌⊎◌, ℕ, ◌≤◌, List, length, Option, Result, IfSome}
 use Rattle.std.specs.Io.KnownBytes.{IsAtEnd}
-use Rattle.plist_engine.specs.Sending.{IsWritten}
-use Rattle.plist_engine.specs.declared.faults.WriteFault.{WriteFault}
+use Rattle.plist_write.specs.Sending.{IsWritten}
+use Rattle.plist_write.specs.declared.faults.WriteFault.{WriteFault}
 use Rattle.plist_forms.specs.Load.{IsLoadFault}
 use Rattle.plist_forms.specs.Sent.{IsUnsent, answer_of}
 use Rattle.plist_forms.specs.declared.faults.Fault.{Fault}

@@ -9,8 +9,8 @@ ghost use Rattle.plist_forms.specs.Refusals.{IsRefused};
 
 use crate::judged::Binary;
 use crate::{Fault, PairFault};
-use plist_engine::canonical_of;
 use plist_value::{FixedHasher, Value};
+use plist_write::canonical_of;
 use std::alloc::Global;
 use std::hash::BuildHasher;
 

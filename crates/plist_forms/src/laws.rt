@@ -22,7 +22,7 @@ pub fn one_value()
 pub fn canonical_is_accepted()
     ensures { CanonicalIsAccepted }
 {
-    plist_engine::laws::canonical_spells_its_value();
+    plist_write::laws::canonical_spells_its_value();
 }
 
 /// If a value within the limits has an OpenStep text, that text is accepted and encodes the value.
@@ -40,5 +40,5 @@ pub fn headline()
 {
     one_value();
     canonical_is_accepted();
-    plist_engine::laws::canonical_tells_values_apart();
+    plist_write::laws::canonical_tells_values_apart();
 }

@@ -6,7 +6,7 @@ use Rattle.plist_value.specs.Plist.{Scalar, text, whole, flag, real4, real8, mom
 use Rattle.plist_value.specs.Texts.{wide_units}
 use Rattle.plist_object.specs.declared.object.ObjectFault.{ObjectFault}
 use Rattle.plist_object.specs.declared.object.ObjectFault.TheVariants.{CutObject, NotAscii}
-use Rattle.plist_object.specs.Objects.{Held, holds_scalar, holds_list, holds_table, IsHeld, cut, ◌>>=◌, count_of_content, content, numbers, object_in, marked_object, real_object, moment_object, data_object, ascii_object, wide_object, list_object, table_object}
+use Rattle.plist_object.specs.Objects.{Content, holds_scalar, holds_list, holds_table, IsContent, cut, ◌>>=◌, count_of_content, content, numbers, object_in, marked_object, real_object, moment_object, data_object, ascii_object, wide_object, list_object, table_object}
 use Rattle.plist_object.specs.Spelling.{head, references, scalar_spelling, whole_spelling}
 use Rattle.plist_object.specs.Heads.{Begins, BeginsScalar, BeginsCanonically, IsCounted}
 use Rattle.plist_object.specs.Layout.{trailer_of}
@@ -48,7 +48,7 @@ was_content unit low n b tail next y counts e =
     content_by_test unit n tail next y (ltb (length tail) (n * unit)) refl (rw counts at e)
 
 -- bytes that begin with a marker and count are decoded by kind
-pub record Headed (width kind n : ℕ) (octets : List ℕ) (y : Held × List ℕ) : Type 0 where
+pub record Headed (width kind n : ℕ) (octets : List ℕ) (y : Content × List ℕ) : Type 0 where
   pub tail : List ℕ
   pub low : ℕ
   pub behind : List ℕ
@@ -57,7 +57,7 @@ pub record Headed (width kind n : ℕ) (octets : List ℕ) (y : Held × List ℕ
   pub counts : count_of_content low behind ≡ Ok (n, tail)
   pub reads : marked_object width kind low behind ≡ Ok y
 
-pub headed : (width kind n : ℕ) (octets : List ℕ) (y : Held × List ℕ) → n < 2 ^ 64 → AreOctets octets → Begins (head kind n) octets → object_in width octets ≡ Ok y → Headed width kind n octets y
+pub headed : (width kind n : ℕ) (octets : List ℕ) (y : Content × List ℕ) → n < 2 ^ 64 → AreOctets octets → Begins (head kind n) octets → object_in width octets ≡ Ok y → Headed width kind n octets y
 headed width kind n octets y small are_octets begins read =
     let tail = drop (length (head kind n)) octets in
     let parts : octets ≡ head kind n ++ tail = split_head (head kind n) octets begins in
@@ -77,13 +77,13 @@ joined : (m : ℕ) (octets first tail content behind : List ℕ) → octets ≡ 
 joined m octets first tail content behind parts front back =
     parts ∙ rw (append_assoc, ← front, ← back, take-append-drop m tail) refl
 
-abbrev pub read_of : Held → List ℕ → Result (Held × List ℕ) ObjectFault
+abbrev pub read_of : Content → List ℕ → Result (Content × List ℕ) ObjectFault
 read_of x b = Ok (x, b)
 
-same_read : (x y : Held) (b d : List ℕ) → read_of x b ≡ read_of y d → (x ≡ y) × (b ≡ d)
+same_read : (x y : Content) (b d : List ℕ) → read_of x b ≡ read_of y d → (x ≡ y) × (b ≡ d)
 same_read x y b d e =
     let pairs : (x, b) ≡ (y, d) = cc in
-    (ap (λ (p : Held × List ℕ). p.0) pairs, ap (λ (p : Held × List ℕ). p.1) pairs)
+    (ap (λ (p : Content × List ℕ). p.0) pairs, ap (λ (p : Content × List ℕ). p.1) pairs)
 
 same_bytes : (a c : List ℕ) → holds_scalar (bytes a) ≡ holds_scalar (bytes c) → a ≡ c
 same_bytes a c e = cc
@@ -101,12 +101,12 @@ data_spelled : (width : ℕ) (xs behind octets : List ℕ) → length xs < 2 ^ 6
 unfolding marked_object data_object
 data_spelled width xs behind octets small are_octets begins read =
     let h = headed width 4 (length xs) octets (holds_scalar (bytes xs), behind) small are_octets begins read in
-    let next : ℕ × List ℕ × List ℕ → Result (Held × List ℕ) ObjectFault = λ c. Ok (holds_scalar (bytes c.1), c.2) in
+    let next : ℕ × List ℕ × List ℕ → Result (Content × List ℕ) ObjectFault = λ c. Ok (holds_scalar (bytes c.1), c.2) in
     let w = was_content 1 h.low (length xs) h.behind h.tail next (holds_scalar (bytes xs), behind) h.counts h.reads in
     let same = same_read _ _ _ _ w.goes_on in
     joined (length xs * 1) octets (head 4 (length xs)) h.tail xs behind h.parts (same_bytes _ _ same.0) same.1
 
-ascii_part : (part us rest behind : List ℕ) (ascii : Bool) → list_all (λ u. ltb u 128) part ≡ ascii → cond {A = Result (Held × List ℕ) ObjectFault} ascii (Ok (holds_scalar (text part), rest)) (Err NotAscii) ≡ Ok (holds_scalar (text us), behind) → (part ≡ us) × (rest ≡ behind)
+ascii_part : (part us rest behind : List ℕ) (ascii : Bool) → list_all (λ u. ltb u 128) part ≡ ascii → cond {A = Result (Content × List ℕ) ObjectFault} ascii (Ok (holds_scalar (text part), rest)) (Err NotAscii) ≡ Ok (holds_scalar (text us), behind) → (part ≡ us) × (rest ≡ behind)
 ascii_part part us rest behind true is e = (same_text _ _ (same_read _ _ _ _ e).0, (same_read _ _ _ _ e).1)
 ascii_part part us rest behind false is e = absurd cc
 
@@ -114,7 +114,7 @@ ascii_spelled : (width : ℕ) (us behind octets : List ℕ) → length us < 2 ^ 
 unfolding marked_object ascii_object
 ascii_spelled width us behind octets small are_octets begins read =
     let h = headed width 5 (length us) octets (holds_scalar (text us), behind) small are_octets begins read in
-    let next : ℕ × List ℕ × List ℕ → Result (Held × List ℕ) ObjectFault = λ c. cond (list_all (λ u. ltb u 128) c.1) (Ok (holds_scalar (text c.1), c.2)) (Err NotAscii) in
+    let next : ℕ × List ℕ × List ℕ → Result (Content × List ℕ) ObjectFault = λ c. cond (list_all (λ u. ltb u 128) c.1) (Ok (holds_scalar (text c.1), c.2)) (Err NotAscii) in
     let w = was_content 1 h.low (length us) h.behind h.tail next (holds_scalar (text us), behind) h.counts h.reads in
     let same = ascii_part (take (length us * 1) h.tail) us (drop (length us * 1) h.tail) behind (list_all (λ u. ltb u 128) (take (length us * 1) h.tail)) refl w.goes_on in
     joined (length us * 1) octets (head 5 (length us)) h.tail us behind h.parts same.0 same.1
@@ -123,7 +123,7 @@ wide_spelled : (width : ℕ) (us behind octets : List ℕ) → length us < 2 ^ 6
 unfolding marked_object wide_object
 wide_spelled width us behind octets small are_octets begins read =
     let h = headed width 6 (length us) octets (holds_scalar (text us), behind) small are_octets begins read in
-    let next : ℕ × List ℕ × List ℕ → Result (Held × List ℕ) ObjectFault = λ c. Ok (holds_scalar (text (wide_units c.1)), c.2) in
+    let next : ℕ × List ℕ × List ℕ → Result (Content × List ℕ) ObjectFault = λ c. Ok (holds_scalar (text (wide_units c.1)), c.2) in
     let w = was_content 2 h.low (length us) h.behind h.tail next (holds_scalar (text us), behind) h.counts h.reads in
     let same = same_read _ _ _ _ w.goes_on in
     let part = take (length us * 2) h.tail in
@@ -135,7 +135,7 @@ list_spelled : (width : ℕ) (refs behind octets : List ℕ) → length refs < 2
 unfolding marked_object list_object
 list_spelled width refs behind octets small are_octets begins read =
     let h = headed width 10 (length refs) octets (holds_list refs, behind) small are_octets begins read in
-    let next : ℕ × List ℕ × List ℕ → Result (Held × List ℕ) ObjectFault = λ c. Ok (holds_list (numbers width c.0 c.1), c.2) in
+    let next : ℕ × List ℕ × List ℕ → Result (Content × List ℕ) ObjectFault = λ c. Ok (holds_list (numbers width c.0 c.1), c.2) in
     let w = was_content width h.low (length refs) h.behind h.tail next (holds_list refs, behind) h.counts h.reads in
     let same = same_read _ _ _ _ w.goes_on in
     let part = take (length refs * width) h.tail in
@@ -150,7 +150,7 @@ unfolding marked_object table_object
 table_spelled width keys values behind octets small pairs are_octets begins read =
     let n = length keys in
     let h = headed width 13 n octets (holds_table keys values, behind) small are_octets begins read in
-    let next : ℕ × List ℕ × List ℕ → Result (Held × List ℕ) ObjectFault = λ c. Ok (holds_table (numbers width c.0 c.1) (numbers width c.0 (drop (c.0 * width) c.1)), c.2) in
+    let next : ℕ × List ℕ × List ℕ → Result (Content × List ℕ) ObjectFault = λ c. Ok (holds_table (numbers width c.0 c.1) (numbers width c.0 (drop (c.0 * width) c.1)), c.2) in
     let w = was_content (2 * width) h.low n h.behind h.tail next (holds_table keys values, behind) h.counts h.reads in
     let same = same_read _ _ _ _ w.goes_on in
     let refs = same_table _ _ _ _ same.0 in
@@ -221,7 +221,7 @@ scalar_spelled width (bytes xs) behind octets valid small are_octets begins read
     data_spelled width xs behind octets small are_octets begins read
 
 -- an object that begins canonically has its canonical encoding
-pub canonically_spelled : (width : ℕ) (held : Held) (behind octets : List ℕ) → IsHeld held → IsCounted held → AreOctets octets → BeginsCanonically held octets → object_in width octets ≡ Ok (held, behind) → octets ≡ spelling_of width held ++ behind
+pub canonically_spelled : (width : ℕ) (held : Content) (behind octets : List ℕ) → IsContent held → IsCounted held → AreOctets octets → BeginsCanonically held octets → object_in width octets ≡ Ok (held, behind) → octets ≡ spelling_of width held ++ behind
 canonically_spelled width (holds_scalar s) behind octets valid small are_octets begins read =
     scalar_spelled width s behind octets valid small are_octets begins read
 canonically_spelled width (holds_list refs) behind octets valid small are_octets begins read =
@@ -247,7 +247,7 @@ begins_scalar (moment xs) behind octets is = begins_more (51 ∷ []) xs behind o
 begins_scalar (bytes xs) behind octets is = begins_more (head 4 (length xs)) xs behind octets is
 
 -- an object in its canonical encoding begins canonically
-pub canonically_begun : (width : ℕ) (held : Held) (behind octets : List ℕ) → octets ≡ spelling_of width held ++ behind → BeginsCanonically held octets
+pub canonically_begun : (width : ℕ) (held : Content) (behind octets : List ℕ) → octets ≡ spelling_of width held ++ behind → BeginsCanonically held octets
 canonically_begun width (holds_scalar s) behind octets is = begins_scalar s behind octets is
 canonically_begun width (holds_list refs) behind octets is =
     begins_more (head 10 (length refs)) (references width refs) behind octets is
@@ -255,7 +255,7 @@ canonically_begun width (holds_table keys values) behind octets is =
     begins_more (head 13 (length keys)) (references width keys ++ references width values) behind octets is
 
 -- an object has its shortest encoding if and only if it begins canonically
-pub shortest_iff : (f : List ℕ) (i : ℕ) (octets : List ℕ) (held : Held) (behind : List ℕ) → octets_at f i ≡ Ok octets → object_in (trailer_of f).reference_width octets ≡ Ok (held, behind) → IsHeld held → IsCounted held → AreOctets octets → (BeginsCanonically held octets → IsShortest f i) × (IsShortest f i → BeginsCanonically held octets)
+pub shortest_iff : (f : List ℕ) (i : ℕ) (octets : List ℕ) (held : Content) (behind : List ℕ) → octets_at f i ≡ Ok octets → object_in (trailer_of f).reference_width octets ≡ Ok (held, behind) → IsContent held → IsCounted held → AreOctets octets → (BeginsCanonically held octets → IsShortest f i) × (IsShortest f i → BeginsCanonically held octets)
 shortest_iff f i octets held behind stands reads valid small are_octets =
     let width = (trailer_of f).reference_width in (
       λ begins. record {

@@ -9,7 +9,7 @@ use Rattle.plist_value.specs.Plist.{text, bytes, AreOctets}
 use Rattle.plist_value.specs.Texts.{wide_units}
 use Rattle.plist_object.specs.declared.object.ObjectFault.{ObjectFault}
 use Rattle.plist_object.specs.declared.object.ObjectFault.TheVariants.{NotAscii}
-use Rattle.plist_object.specs.Objects.{Held, holds_scalar, object_in, ◌>>=◌, marked_object, data_object, ascii_object, wide_object}
+use Rattle.plist_object.specs.Objects.{Content, holds_scalar, object_in, ◌>>=◌, marked_object, data_object, ascii_object, wide_object}
 use Rattle.plist_object.specs.Layout.{trailer_of}
 use Rattle.plist_object.specs.Places.{octets_at, object_at, what_holds}
 use Rattle.plist_object.specs.Heads.{Begins}
@@ -37,11 +37,11 @@ behind_head : (kind n : ℕ) (octets tail : List ℕ) → octets ≡ head kind n
 behind_head kind n octets tail parts =
     rw (parts, ← length-head kind n) (drop-append_seam (head kind n) tail)
 
-data_leads : (width n : ℕ) (octets : List ℕ) (y : Held × List ℕ) → n < 2 ^ 64 → AreOctets octets → Begins (head 4 n) octets → object_in width octets ≡ Ok y → LeadsScalar width (head_size n + n) octets
+data_leads : (width n : ℕ) (octets : List ℕ) (y : Content × List ℕ) → n < 2 ^ 64 → AreOctets octets → Begins (head 4 n) octets → object_in width octets ≡ Ok y → LeadsScalar width (head_size n + n) octets
 unfolding marked_object data_object
 data_leads width n octets y small are begins read =
     let h = headed width 4 n octets y small are begins read in
-    let next : ℕ × List ℕ × List ℕ → Result (Held × List ℕ) ObjectFault = λ c. Ok (holds_scalar (bytes c.1), c.2) in
+    let next : ℕ × List ℕ × List ℕ → Result (Content × List ℕ) ObjectFault = λ c. Ok (holds_scalar (bytes c.1), c.2) in
     let w = was_content 1 h.low n h.behind h.tail next y h.counts h.reads in
     let part = take (n * 1) h.tail in
     let all : n * 1 ≡ n = omega arith in
@@ -54,19 +54,19 @@ data_leads width n octets y small are begins read =
     }
 
 -- the ASCII string was decoded
-record WasAscii (part rest : List ℕ) (y : Held × List ℕ) : Type 0 where
+record WasAscii (part rest : List ℕ) (y : Content × List ℕ) : Type 0 where
   ascii : list_all (λ u. ltb u 128) part ≡ true
   goes_on : read_of (holds_scalar (text part)) rest ≡ Ok y
 
-was_ascii : (part rest : List ℕ) (y : Held × List ℕ) (ascii : Bool) → list_all (λ u. ltb u 128) part ≡ ascii → cond {A = Result (Held × List ℕ) ObjectFault} ascii (Ok (holds_scalar (text part), rest)) (Err NotAscii) ≡ Ok y → WasAscii part rest y
+was_ascii : (part rest : List ℕ) (y : Content × List ℕ) (ascii : Bool) → list_all (λ u. ltb u 128) part ≡ ascii → cond {A = Result (Content × List ℕ) ObjectFault} ascii (Ok (holds_scalar (text part), rest)) (Err NotAscii) ≡ Ok y → WasAscii part rest y
 was_ascii part rest y true is e = record { ascii = is; goes_on = e }
 was_ascii part rest y false is e = absurd cc
 
-ascii_leads : (width n : ℕ) (octets : List ℕ) (y : Held × List ℕ) → n < 2 ^ 64 → AreOctets octets → Begins (head 5 n) octets → object_in width octets ≡ Ok y → LeadsScalar width (head_size n + n) octets
+ascii_leads : (width n : ℕ) (octets : List ℕ) (y : Content × List ℕ) → n < 2 ^ 64 → AreOctets octets → Begins (head 5 n) octets → object_in width octets ≡ Ok y → LeadsScalar width (head_size n + n) octets
 unfolding marked_object ascii_object
 ascii_leads width n octets y small are begins read =
     let h = headed width 5 n octets y small are begins read in
-    let next : ℕ × List ℕ × List ℕ → Result (Held × List ℕ) ObjectFault = λ c. cond (list_all (λ u. ltb u 128) c.1) (Ok (holds_scalar (text c.1), c.2)) (Err NotAscii) in
+    let next : ℕ × List ℕ × List ℕ → Result (Content × List ℕ) ObjectFault = λ c. cond (list_all (λ u. ltb u 128) c.1) (Ok (holds_scalar (text c.1), c.2)) (Err NotAscii) in
     let w = was_content 1 h.low n h.behind h.tail next y h.counts h.reads in
     let part = take (n * 1) h.tail in
     let was = was_ascii part (drop (n * 1) h.tail) y (list_all (λ u. ltb u 128) part) refl w.goes_on in
@@ -80,7 +80,7 @@ ascii_leads width n octets y small are begins read =
       spelled = copied 5 n n octets h.tail h.parts ∙ rw (long, all) refl ∙ sym spelled;
     }
 
-pub read_at : (width : ℕ) (octets : List ℕ) (read : Result (Held × List ℕ) ObjectFault) → object_in width octets ≡ read → IsOk read → (y : Held × List ℕ) × (object_in width octets ≡ Ok y)
+pub read_at : (width : ℕ) (octets : List ℕ) (read : Result (Content × List ℕ) ObjectFault) → object_in width octets ≡ read → IsOk read → (y : Content × List ℕ) × (object_in width octets ≡ Ok y)
 read_at width octets (Ok y) is reads = (y, is)
 read_at width octets (Err e) is reads = absurd (true≢false (sym reads))
 
@@ -101,11 +101,11 @@ plain-leads kind n octets are short least most width reads =
     (cases_lt kind 5)
 
 -- a UTF-16 string with a unit that is not ASCII
-wide_leads : (width n : ℕ) (octets : List ℕ) (y : Held × List ℕ) → n < 2 ^ 64 → AreOctets octets → Begins (head 6 n) octets → HasWideUnit n octets → object_in width octets ≡ Ok y → LeadsScalar width (head_size n + 2 * n) octets
+wide_leads : (width n : ℕ) (octets : List ℕ) (y : Content × List ℕ) → n < 2 ^ 64 → AreOctets octets → Begins (head 6 n) octets → HasWideUnit n octets → object_in width octets ≡ Ok y → LeadsScalar width (head_size n + 2 * n) octets
 unfolding marked_object wide_object
 wide_leads width n octets y small are begins has_wide read =
     let h = headed width 6 n octets y small are begins read in
-    let next : ℕ × List ℕ × List ℕ → Result (Held × List ℕ) ObjectFault = λ c. Ok (holds_scalar (text (wide_units c.1)), c.2) in
+    let next : ℕ × List ℕ × List ℕ → Result (Content × List ℕ) ObjectFault = λ c. Ok (holds_scalar (text (wide_units c.1)), c.2) in
     let w = was_content 2 h.low n h.behind h.tail next y h.counts h.reads in
     let part = take (2 * n) h.tail in
     let twice : n * 2 ≡ 2 * n = omega arith in
@@ -129,7 +129,7 @@ wide-leads n octets are short has_wide width reads =
     let read = read_at width octets (object_in width octets) refl reads in
     wide_leads width n octets read.0 small are short.begins has_wide read.1
 
-held_first : (read : Result (Held × List ℕ) ObjectFault) → (read >>= λ p. Ok p.0) ≡ first_of read
+held_first : (read : Result (Content × List ℕ) ObjectFault) → (read >>= λ p. Ok p.0) ≡ first_of read
 held_first (Ok p) = refl
 held_first (Err e) = refl
 

@@ -4,7 +4,7 @@ use Rattle.std.specs.Prelude.{IsOk}
 use Rattle.std.proofs.lemmas.List.{take_at, take-append-drop, length-take-le}
 use Rattle.std.proofs.lemmas.Int.{ints}
 use Rattle.plist_value.specs.Plist.{Scalar, whole, flag, real4, real8, moment, AreOctets, IsOctetsOf, IsScalar}
-use Rattle.plist_object.specs.Objects.{Held, holds_scalar, object_in, cut, ◌>>=◌, marked_object, whole_object, real_object, moment_object}
+use Rattle.plist_object.specs.Objects.{Content, holds_scalar, object_in, cut, ◌>>=◌, marked_object, whole_object, real_object, moment_object}
 use Rattle.plist_object.specs.Sizes.{IsSmall}
 use Rattle.plist_object.specs.Spelling.{scalar_spelling}
 use Rattle.plist_object.specs.Shortest.{BeginsFixed, IsFixed, no, yes, octet, short, long, date, LeadsScalar}
@@ -38,13 +38,13 @@ one_leads width d octets rest small parts =
     let valid : IsScalar (whole (pos d)) = record { least = omega (arith, ints); most = omega (arith, ints) } in
     leads width 2 (whole (pos d)) octets rest valid tt (rw spelled parts) (rw spelled refl)
 
-whole_leads : (width : ℕ) (octets tail : List ℕ) (y : Held × List ℕ) → AreOctets tail → octets ≡ 16 ∷ tail → object_in width (16 ∷ tail) ≡ Ok y → LeadsScalar width 2 octets
+whole_leads : (width : ℕ) (octets tail : List ℕ) (y : Content × List ℕ) → AreOctets tail → octets ≡ 16 ∷ tail → object_in width (16 ∷ tail) ≡ Ok y → LeadsScalar width 2 octets
 unfolding marked_object whole_object
 whole_leads width octets [] y are parts read = absurd cc
 whole_leads width octets (d ∷ rest) y are parts read = one_leads width d octets rest (are 0) parts
 
 -- a marker with n bytes after it
-shown_leads : (width marker n : ℕ) (shows : List ℕ → Scalar) (octets tail : List ℕ) (y : Held × List ℕ) → AreOctets tail → octets ≡ marker ∷ tail → ((xs : List ℕ) → IsOctetsOf n xs → IsScalar (shows xs)) → ((xs : List ℕ) → IsSmall (shows xs)) → ((xs : List ℕ) → scalar_spelling (shows xs) ≡ marker ∷ xs) → (cut n tail >>= λ parts. read_of (holds_scalar (shows parts.0)) parts.1) ≡ Ok y → LeadsScalar width (suc n) octets
+shown_leads : (width marker n : ℕ) (shows : List ℕ → Scalar) (octets tail : List ℕ) (y : Content × List ℕ) → AreOctets tail → octets ≡ marker ∷ tail → ((xs : List ℕ) → IsOctetsOf n xs → IsScalar (shows xs)) → ((xs : List ℕ) → IsSmall (shows xs)) → ((xs : List ℕ) → scalar_spelling (shows xs) ≡ marker ∷ xs) → (cut n tail >>= λ parts. read_of (holds_scalar (shows parts.0)) parts.1) ≡ Ok y → LeadsScalar width (suc n) octets
 shown_leads width marker n shows octets tail y are parts valid small spelled reads =
     let w = was_cut n tail (λ parts. read_of (holds_scalar (shows parts.0)) parts.1) y reads in
     let xs = take n tail in
@@ -52,7 +52,7 @@ shown_leads width marker n shows octets tail y are parts valid small spelled rea
     let all : octets ≡ scalar_spelling (shows xs) ++ drop n tail = parted marker n octets tail parts ∙ ap (λ (zs : List ℕ). zs ++ drop n tail) (sym (spelled xs)) in
     leads width (suc n) (shows xs) octets (drop n tail) (valid xs has) (small xs) all (ap length (spelled xs) ∙ ap suc has.long)
 
-marked_leads : (width marker n : ℕ) (octets tail : List ℕ) (y : Held × List ℕ) → IsFixed marker n → AreOctets tail → octets ≡ marker ∷ tail → object_in width (marker ∷ tail) ≡ Ok y → LeadsScalar width n octets
+marked_leads : (width marker n : ℕ) (octets tail : List ℕ) (y : Content × List ℕ) → IsFixed marker n → AreOctets tail → octets ≡ marker ∷ tail → object_in width (marker ∷ tail) ≡ Ok y → LeadsScalar width n octets
 unfolding marked_object real_object moment_object
 marked_leads width marker n octets tail y no are parts read = leads width 1 (flag false) octets tail tt tt parts refl
 marked_leads width marker n octets tail y yes are parts read = leads width 1 (flag true) octets tail tt tt parts refl

@@ -11,7 +11,7 @@ use Rattle.plist_value.specs.Plist.{Scalar, real4, real8, moment, AreOctets, IsO
 use Rattle.plist_value.proofs.WideUnits.{AreUnits-wide_units}
 use Rattle.plist_object.specs.declared.object.ObjectFault.{ObjectFault}
 use Rattle.plist_object.specs.Layout.{trailer_of}
-use Rattle.plist_object.specs.Objects.{Held, holds_scalar, IsHeld, ◌>>=◌, cut, integer_length, count_spelled, count_of_content, content, whole_in, simple_object, whole_object, real_object, moment_object, data_object, ascii_object, wide_object, list_object, table_object, marked_object, object_in}
+use Rattle.plist_object.specs.Objects.{Content, holds_scalar, IsContent, ◌>>=◌, cut, integer_length, count_spelled, count_of_content, content, whole_in, simple_object, whole_object, real_object, moment_object, data_object, ascii_object, wide_object, list_object, table_object, marked_object, object_in}
 use Rattle.plist_object.specs.Places.{Holds, place_of, octets_at, object_at, what_holds}
 use Rattle.plist_object.proofs.Listed.{length-numbers}
 use Rattle.plist_object.proofs.SameOctets.{AreOctets-take, AreOctets-drop}
@@ -87,8 +87,8 @@ whole_in-range n octets small h =
     (λ _. whole-unsigned _ (number-small n octets (small (eqb-false n 16 e)) h)))
 
 -- the decoded content is in its ranges
-abbrev ReadsHeld : Result (Held × List ℕ) ObjectFault → Type 0
-ReadsHeld r = IfOk r (λ read. IsHeld read.0)
+abbrev ReadsHeld : Result (Content × List ℕ) ObjectFault → Type 0
+ReadsHeld r = IfOk r (λ read. IsContent read.0)
 
 simple : (low : ℕ) (octets : List ℕ) → ReadsHeld (simple_object low octets)
 unfolding simple_object
@@ -144,7 +144,7 @@ module _ (octets : List ℕ) (h : AreOctets octets) where
       IfOk-then (content (2 * width) low octets) _ (λ c. AreOctets c.1) _ (content-octets (2 * width) low octets h)
       (λ c is. length-numbers width c.0 c.1 ∙ sym (length-numbers width c.0 (drop (c.0 * width) c.1)))
 
-  by_test : (b : Bool) (x y : Result (Held × List ℕ) ObjectFault) → ReadsHeld x → ReadsHeld y → ReadsHeld (cond b x y)
+  by_test : (b : Bool) (x y : Result (Content × List ℕ) ObjectFault) → ReadsHeld x → ReadsHeld y → ReadsHeld (cond b x y)
   by_test b x y p q = cond_both b x y ReadsHeld (λ _. p) (λ _. q)
 
   marked : (width high low : ℕ) → ReadsHeld (marked_object width high low octets)
@@ -181,9 +181,9 @@ unfolding object_at
 object_at-held f i h =
     IfOk-then (octets_at f i) _ AreOctets _ (octets_at-octets f i h) (λ octets are. object_in-held (trailer_of f).reference_width octets are)
 
-what_holds-held : (f : List ℕ) (i : ℕ) → AreOctets f → IfOk (what_holds f i) IsHeld
+what_holds-held : (f : List ℕ) (i : ℕ) → AreOctets f → IfOk (what_holds f i) IsContent
 unfolding what_holds
-what_holds-held f i h = IfOk-then (object_at f i) _ (λ read. IsHeld read.0) _ (object_at-held f i h) (λ read is. is)
+what_holds-held f i h = IfOk-then (object_at f i) _ (λ read. IsContent read.0) _ (object_at-held f i h) (λ read is. is)
 
-pub Holds-held : (f : List ℕ) (i : ℕ) (held : Held) → AreOctets f → Holds f i held → IsHeld held
-Holds-held f i held h holds = subst (λ r. IfOk r IsHeld) holds.reads (what_holds-held f i h)
+pub Holds-held : (f : List ℕ) (i : ℕ) (held : Content) → AreOctets f → Holds f i held → IsContent held
+Holds-held f i held h holds = subst (λ r. IfOk r IsContent) holds.reads (what_holds-held f i h)

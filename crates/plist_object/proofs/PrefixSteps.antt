@@ -11,7 +11,7 @@ use Rattle.std.proofs.lemmas.List.{take-append-drop}
 use Rattle.std.proofs.lemmas.Map.Lookups.{exact_bytes}
 use Rattle.plist_value.specs.declared.text_ref.TextRef.{TextRef}
 use Rattle.plist_object.specs.declared.order.Row.{Row}
-use Rattle.plist_object.specs.KeyOrder.{units_at}
+use Rattle.plist_object.specs.KeyOrder.{row_units}
 use Rattle.plist_object.specs.declared.prefixes.Width.{Width}
 use Rattle.plist_object.specs.declared.prefixes.Width.TheVariants.{Bits8, Bits16}
 use Rattle.plist_object.specs.Prefixes.{behind, digit_of, digits_of, in_run, prefix_of}
@@ -136,9 +136,9 @@ changed_more f (suc i) (key ∷ before) now next d within is next_is =
     ap (λ (ks : List Row). set ks (suc i) next) is ∙ ap (λ (ks : List Row). f key ∷ ks) more ∙ ap (λ (n : ℕ). map f (take n (key ∷ before)) ++ drop n (key ∷ before)) (sym one)
 
 -- the row with its new number
-pub in_run_is : (texts : List TextRef) (start front : ℕ) (width : Width) (row : Row) (prefix : ℕ) → prefix ≡ prefix_of width (drop front (units_at texts row)) → record { prefix = prefix; run = start; place = row.place } ≡ in_run texts start front width row
+pub in_run_is : (texts : List TextRef) (start front : ℕ) (width : Width) (row : Row) (prefix : ℕ) → prefix ≡ prefix_of width (drop front (row_units texts row)) → record { prefix = prefix; run = start; index = row.index } ≡ in_run texts start front width row
 in_run_is texts start front width row prefix is =
-    ap (λ (n : ℕ). record { prefix = n; run = start; place = row.place }) is
+    ap (λ (n : ℕ). record { prefix = n; run = start; index = row.index }) is
 
 step_of : (m a b c p h i whole : ℕ) → b ≡ c → i ≡ h → a * (p * m) + (c * p + h) ≡ whole → (m * a + b) * p + i ≡ whole
 step_of m a b c p h i whole same other sum =
@@ -155,12 +155,12 @@ digits_step most left next digits digit head units rest one is behind_is whole =
     step_of (most + 1) digits digit (digit_of most units) ((most + 1) ^ next) (digits_of most next (behind most units)) (digits_of most next rest) head is (ap (digits_of most next) behind_is) first
 
 -- the byte at an index, and the units after it
-pub octet_here : (octets : List ℕ) (place : ℕ) (d : ℕ) → place < length octets → get_or octets place d ≤ 255 → (get_or octets place d ≡ digit_of 255 (drop place octets)) × (drop (place + 1) octets ≡ behind 255 (drop place octets))
-octet_here [] place d within small = absurd (omega arith)
+pub octet_here : (octets : List ℕ) (index : ℕ) (d : ℕ) → index < length octets → get_or octets index d ≤ 255 → (get_or octets index d ≡ digit_of 255 (drop index octets)) × (drop (index + 1) octets ≡ behind 255 (drop index octets))
+octet_here [] index d within small = absurd (omega arith)
 octet_here (octet ∷ octets) zero d within small = (rw (le-ltb 255 octet small) refl, rw (le-ltb 255 octet small) refl)
-octet_here (octet ∷ octets) (suc place) d within small =
-    let rest = octet_here octets place d (omega arith) small in
-    let one : suc place + 1 ≡ suc (place + 1) = omega arith in
+octet_here (octet ∷ octets) (suc index) d within small =
+    let rest = octet_here octets index d (omega arith) small in
+    let one : suc index + 1 ≡ suc (index + 1) = omega arith in
     (rest.0, ap (λ (n : ℕ). drop n (octet ∷ octets)) one ∙ rest.1)
 
 -- with one more digit the sort prefix still fits

@@ -4,7 +4,7 @@ use Rattle.std.proofs.lemmas.Bool.{cases_lt}
 use Rattle.std.proofs.lemmas.List.{get_or-drop, get_or-take, get_or_default, length-drop, length-take}
 use Rattle.plist_value.specs.declared.text_ref.TextRef.{TextRef}
 use Rattle.plist_object.specs.declared.order.Row.{Row}
-use Rattle.plist_object.specs.KeyOrder.{units_at}
+use Rattle.plist_object.specs.KeyOrder.{row_units}
 use Rattle.plist_object.specs.Prefixes.{IsNarrow}
 
 -- the unit at an index of the next eight
@@ -32,12 +32,12 @@ wide_part units front i low high within wide narrow =
     omega (arith, below, is, wide)
 
 -- one more string whose next units are narrow
-pub narrow_more : (texts : List TextRef) (rows : List Row) (front i : ℕ) (e : Row) → i < length rows → ((k : ℕ) (d : Row) → k < i → IsNarrow (drop front (units_at texts (get_or rows k d)))) → IsNarrow (drop front (units_at texts (get_or rows i e))) → (k : ℕ) (d : Row) → k < i + 1 → IsNarrow (drop front (units_at texts (get_or rows k d)))
+pub narrow_more : (texts : List TextRef) (rows : List Row) (front i : ℕ) (e : Row) → i < length rows → ((k : ℕ) (d : Row) → k < i → IsNarrow (drop front (row_units texts (get_or rows k d)))) → IsNarrow (drop front (row_units texts (get_or rows i e))) → (k : ℕ) (d : Row) → k < i + 1 → IsNarrow (drop front (row_units texts (get_or rows k d)))
 narrow_more texts rows front i e within before last k d h =
     elim (cases_lt k i) [
       | inl earlier ↦ before k d earlier
       | inr late ↦ (
           let is : i ≡ k = omega (arith, h, late) in
           let same : get_or rows i e ≡ get_or rows k d = get_or_default rows i e d within ∙ ap (λ (n : ℕ). get_or rows n d) is in
-          subst (λ (row : Row). IsNarrow (drop front (units_at texts row))) same last)
+          subst (λ (row : Row). IsNarrow (drop front (row_units texts row))) same last)
     ]

@@ -3,7 +3,7 @@ use Rattle.std.specs.Prelude.{◌≡◌, ℕ, nat_lt, if◌then◌else◌, List,
 use Rattle.std.specs.Prelude.{◌^◌}
 use Rattle.std.specs.List.{list_all}
 use Rattle.plist_value.specs.Plist.{Scalar, text, whole, flag, real4, real8, moment, bytes}
-use Rattle.plist_object.specs.Objects.{Held, holds_scalar, holds_list, holds_table}
+use Rattle.plist_object.specs.Objects.{Content, holds_scalar, holds_list, holds_table}
 use Rattle.plist_object.specs.Spelling.{head, whole_spelling}
 
 -- `first` is a prefix of the bytes
@@ -25,13 +25,13 @@ BeginsScalar (bytes xs) octets = Begins (head 4 (length xs)) octets
 
 -- the bytes begin like the canonical encoding of their content: with the marker, and with the count
 -- or the integer
-abbrev pub BeginsCanonically : Held → List ℕ → Type 0
+abbrev pub BeginsCanonically : Content → List ℕ → Type 0
 BeginsCanonically (holds_scalar s) octets = BeginsScalar s octets
 BeginsCanonically (holds_list refs) octets = Begins (head 10 (length refs)) octets
 BeginsCanonically (holds_table keys values) octets = Begins (head 13 (length keys)) octets
 
 -- the content has fewer than 2^64 units, bytes, items or keys
-abbrev pub IsCounted : Held → Type 0
+abbrev pub IsCounted : Content → Type 0
 IsCounted (holds_scalar (text units)) = length units < 2 ^ 64
 IsCounted (holds_scalar (bytes xs)) = length xs < 2 ^ 64
 IsCounted (holds_scalar s) = ⊤

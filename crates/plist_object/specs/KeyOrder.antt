@@ -20,24 +20,24 @@ use Rattle.plist_object.specs.declared.ranks.Ranks.{Ranks}
 use Rattle.plist_object.specs.declared.order.Row.{Row}
 use Rattle.plist_object.specs.declared.order.KeyOrder.{KeyOrder}
 
-abbrev pub place_of : Row → ℕ
-place_of row = row.place
+abbrev pub index_of : Row → ℕ
+index_of row = row.index
 
 -- by runs, and then by sort prefixes
-abbrev pub number_of : Row → ℕ
-number_of row = 2 ^ 64 * row.run + row.prefix
+abbrev pub sort_key : Row → ℕ
+sort_key row = 2 ^ 64 * row.run + row.prefix
 
 -- the string at a position
 abbrev pub string_at : List TextRef → ℕ → List ℕ
-string_at texts place = slice_index_or (map units_of texts) place []
+string_at texts index = slice_index_or (map units_of texts) index []
 
-abbrev pub units_at : List TextRef → Row → List ℕ
-units_at texts row = string_at texts row.place
+abbrev pub row_units : List TextRef → Row → List ℕ
+row_units texts row = string_at texts row.index
 
 -- the reference at this position points to the string there
 abbrev pub HoldsString : List ℕ → List ℕ → List TextRef → ℕ → Type 0
-HoldsString f keys texts place =
-    Holds f (slice_index keys place) (holds_scalar (text (string_at texts place)))
+HoldsString f keys texts index =
+    Holds f (slice_index keys index) (holds_scalar (text (string_at texts index)))
 
 -- the strings of the keys
 pub record AreTexts (f keys : List ℕ) (texts : List TextRef) : Type 0 where
@@ -52,31 +52,31 @@ IsRankOf ranks rank units = (rank < length (texts_of ranks))
 -- a lower number means a lower string
 abbrev pub TellsOrder : List TextRef → Row → Row → Type 0
 TellsOrder texts row other =
-    number_of row < number_of other → slice_cmp nat_cmp (units_at texts row) (units_at texts other)
+    sort_key row < sort_key other → slice_cmp nat_cmp (row_units texts row) (row_units texts other)
     ≡ Less
 
 -- by numbers, and by strings if these are equal
 abbrev pub by_number : List TextRef → Row → Row → Ordering
-by_number texts = then_cmp (on number_of nat_cmp) (on (units_at texts) (slice_cmp nat_cmp))
+by_number texts = then_cmp (on sort_key nat_cmp) (on (row_units texts) (slice_cmp nat_cmp))
 
 -- one row for each of the strings, with numbers that agree with their order
 pub record AreRows (texts : List TextRef) (rows : List Row) : Type 0 where
-  pub moved : IsPermutation (range_with_len 0 (length texts)) (map place_of rows)
+  pub moved : IsPermutation (range_with_len 0 (length texts)) (map index_of rows)
   pub tell : All (λ row. All (TellsOrder texts row) rows) rows
 
 -- the kept positions are the order of the last dictionary's keys, and `distinct` says whether these
 -- are distinct
-pub record IsLast (f keys places : List ℕ) (distinct : Bool) : Type 0 where
-  pub order : IsInOrder f keys places
-  pub tells : IsTrue distinct ↔ Ascend f keys places
+pub record IsLast (f keys indices : List ℕ) (distinct : Bool) : Type 0 where
+  pub order : IsInOrder f keys indices
+  pub tells : IsTrue distinct ↔ Ascend f keys indices
 
 -- the positions of the keys sorted last, in order
-abbrev pub places_of : KeyOrder → List ℕ
-places_of order = order.places.items
+abbrev pub indices_of : KeyOrder → List ℕ
+indices_of order = order.indices.items
 
 -- what is kept of the last dictionary is correct, and the ranks are those of this file
 pub record IsReady (f : List ℕ) (order : KeyOrder) : Type 0 where
   pub last : IfSome order.last
-      (λ keys. IsLast f (numbers_of keys) order.places.items order.distinct)
+      (λ keys. IsLast f (numbers_of keys) order.indices.items order.distinct)
   pub ascending : IfSome order.ascending (λ keys. AreAscending f (numbers_of keys))
   pub ranks : AreRanks f order.ranks

@@ -16,16 +16,16 @@ use Rattle.plist_object.specs.declared.object.ObjectFault.TheVariants.{WideInteg
 
 -- a scalar, the references of an array, or the references of a dictionary to its keys and to its
 -- values
-pub data Held : Type 0 where
-  holds_scalar : Scalar → Held
-  holds_list : List ℕ → Held
-  holds_table : List ℕ → List ℕ → Held
+pub data Content : Type 0 where
+  holds_scalar : Scalar → Content
+  holds_list : List ℕ → Content
+  holds_table : List ℕ → List ℕ → Content
 
 -- the numbers of a scalar are in their ranges, and a dictionary has equally many keys and values
-abbrev pub IsHeld : Held → Type 0
-IsHeld (holds_scalar s) = IsScalar s
-IsHeld (holds_list refs) = ⊤
-IsHeld (holds_table keys values) = length keys ≡ length values
+abbrev pub IsContent : Content → Type 0
+IsContent (holds_scalar s) = IsScalar s
+IsContent (holds_list refs) = ⊤
+IsContent (holds_table keys values) = length keys ≡ length values
 
 infixl 10 ◌>>=◌
 abbrev pub ◌>>=◌ : {A B : Type 0} → Result A ObjectFault → (A → Result B ObjectFault)
@@ -80,59 +80,59 @@ abbrev pub numbers : ℕ → ℕ → List ℕ → List ℕ
 numbers width zero octets = []
 numbers width (suc n) octets = big_number width octets ∷ numbers width n (drop width octets)
 
-unfoldable pub simple_object : ℕ → List ℕ → Result (Held × List ℕ) ObjectFault
+unfoldable pub simple_object : ℕ → List ℕ → Result (Content × List ℕ) ObjectFault
 simple_object low octets =
     if low == 0 then Err NullObject
     else (if low == 8 then Ok (holds_scalar (flag false), octets)
     else (if low == 9 then Ok (holds_scalar (flag true), octets)
     else Err BadMarker))
 
-unfoldable pub whole_object : ℕ → List ℕ → Result (Held × List ℕ) ObjectFault
+unfoldable pub whole_object : ℕ → List ℕ → Result (Content × List ℕ) ObjectFault
 whole_object low octets = do
   n ← integer_length (16 + low)
   parts ← cut n octets
   z ← whole_in n parts.0
   Ok (holds_scalar (whole z), parts.1)
 
-unfoldable pub real_object : ℕ → List ℕ → Result (Held × List ℕ) ObjectFault
+unfoldable pub real_object : ℕ → List ℕ → Result (Content × List ℕ) ObjectFault
 real_object low octets =
     if low == 2 then (cut 4 octets >>= λ parts. Ok (holds_scalar (real4 parts.0), parts.1))
     else (if low == 3 then (cut 8 octets >>= λ parts. Ok (holds_scalar (real8 parts.0), parts.1))
     else Err BadMarker)
 
-unfoldable pub moment_object : ℕ → List ℕ → Result (Held × List ℕ) ObjectFault
+unfoldable pub moment_object : ℕ → List ℕ → Result (Content × List ℕ) ObjectFault
 moment_object low octets =
     if low == 3 then (cut 8 octets >>= λ parts. Ok (holds_scalar (moment parts.0), parts.1))
     else Err BadMarker
 
-unfoldable pub data_object : ℕ → List ℕ → Result (Held × List ℕ) ObjectFault
+unfoldable pub data_object : ℕ → List ℕ → Result (Content × List ℕ) ObjectFault
 data_object low octets = do
   c ← content 1 low octets
   Ok (holds_scalar (bytes c.1), c.2)
 
-unfoldable pub ascii_object : ℕ → List ℕ → Result (Held × List ℕ) ObjectFault
+unfoldable pub ascii_object : ℕ → List ℕ → Result (Content × List ℕ) ObjectFault
 ascii_object low octets = do
   c ← content 1 low octets
   if list_all (λ octet. nat_lt octet 128) c.1 then Ok (holds_scalar (text c.1), c.2)
       else Err NotAscii
 
-unfoldable pub wide_object : ℕ → List ℕ → Result (Held × List ℕ) ObjectFault
+unfoldable pub wide_object : ℕ → List ℕ → Result (Content × List ℕ) ObjectFault
 wide_object low octets = do
   c ← content 2 low octets
   Ok (holds_scalar (text (wide_units c.1)), c.2)
 
-unfoldable pub list_object : ℕ → ℕ → List ℕ → Result (Held × List ℕ) ObjectFault
+unfoldable pub list_object : ℕ → ℕ → List ℕ → Result (Content × List ℕ) ObjectFault
 list_object width low octets = do
   c ← content width low octets
   Ok (holds_list (numbers width c.0 c.1), c.2)
 
-unfoldable pub table_object : ℕ → ℕ → List ℕ → Result (Held × List ℕ) ObjectFault
+unfoldable pub table_object : ℕ → ℕ → List ℕ → Result (Content × List ℕ) ObjectFault
 table_object width low octets = do
   c ← content (2 * width) low octets
   Ok (holds_table (numbers width c.0 c.1) (numbers width c.0 (drop (c.0 * width) c.1)), c.2)
 
 -- by the two halves of the marker
-unfoldable pub marked_object : ℕ → ℕ → ℕ → List ℕ → Result (Held × List ℕ) ObjectFault
+unfoldable pub marked_object : ℕ → ℕ → ℕ → List ℕ → Result (Content × List ℕ) ObjectFault
 marked_object width high low octets =
     if high == 0 then simple_object low octets
     else (if high == 1 then whole_object low octets
@@ -149,6 +149,6 @@ marked_object width high low octets =
 
 -- The content of the object that begins with these bytes, and the bytes after it, or its first
 -- error. The bytes reach up to the offset table, and references have `width` bytes.
-abbrev pub object_in : ℕ → List ℕ → Result (Held × List ℕ) ObjectFault
+abbrev pub object_in : ℕ → List ℕ → Result (Content × List ℕ) ObjectFault
 object_in width [] = Err CutObject
 object_in width (marker ∷ octets) = marked_object width (marker / 16) (marker % 16) octets

@@ -5,7 +5,7 @@ use Rattle.std.specs.Cmp.Lexicographic.{slice_cmp}
 use Rattle.std.specs.List.{range_with_len}
 use Rattle.std.specs.List.Sorted.{IsPermutation, IsSorted, IsStrictlySortedBy}
 use Rattle.plist_value.specs.Plist.{text}
-use Rattle.plist_object.specs.Objects.{Held, holds_scalar, holds_list, holds_table}
+use Rattle.plist_object.specs.Objects.{Content, holds_scalar, holds_list, holds_table}
 use Rattle.plist_object.specs.declared.object.ObjectFault.{ObjectFault}
 use Rattle.plist_object.specs.Places.{what_holds, HoldsText}
 
@@ -14,7 +14,7 @@ abbrev pub NameTexts : List ℕ → List ℕ → Type 0
 NameTexts f keys = EachIndex keys (λ k. HoldsText f (slice_index keys k))
 
 -- the units of a string, and none of anything else
-abbrev pub units_in : Result Held ObjectFault → List ℕ
+abbrev pub units_in : Result Content ObjectFault → List ℕ
 units_in (Ok (holds_scalar (text units))) = units
 units_in (Ok (holds_scalar s)) = []
 units_in (Ok (holds_list refs)) = []
@@ -23,17 +23,17 @@ units_in (Err e) = []
 
 -- the strings of the keys at these positions
 abbrev pub strings_at : List ℕ → List ℕ → List ℕ → List (List ℕ)
-strings_at f keys places = map (λ place. units_in (what_holds f (slice_index keys place))) places
+strings_at f keys indices = map (λ index. units_in (what_holds f (slice_index keys index))) indices
 
 -- the positions of the keys, in the order of their strings
-pub record IsInOrder (f keys places : List ℕ) : Type 0 where
-  pub moved : IsPermutation (range_with_len 0 (length keys)) places
-  pub sorted : IsSorted (slice_cmp nat_cmp) (strings_at f keys places)
+pub record IsInOrder (f keys indices : List ℕ) : Type 0 where
+  pub moved : IsPermutation (range_with_len 0 (length keys)) indices
+  pub sorted : IsSorted (slice_cmp nat_cmp) (strings_at f keys indices)
 
 -- at these positions each string is below the next
 abbrev pub Ascend : List ℕ → List ℕ → List ℕ → Type 0
-Ascend f keys places = IsStrictlySortedBy (slice_cmp nat_cmp) (strings_at f keys places)
+Ascend f keys indices = IsStrictlySortedBy (slice_cmp nat_cmp) (strings_at f keys indices)
 
 -- the key and the value at a position
 abbrev pub pair_of : List ℕ → List ℕ → ℕ → ℕ × ℕ
-pair_of keys values place = (slice_index keys place, slice_index values place)
+pair_of keys values index = (slice_index keys index, slice_index values index)

@@ -4,7 +4,7 @@ use Rattle.std.specs.Prelude.{length, take, drop, slice_index_or, Result, Ok, Er
 use Rattle.byteorder.specs.Endian.{big_number}
 use Rattle.plist_value.specs.Plist.{Scalar, text}
 use Rattle.plist_object.specs.Layout.{trailer_of}
-use Rattle.plist_object.specs.Objects.{Held, holds_scalar, object_in, ◌>>=◌}
+use Rattle.plist_object.specs.Objects.{Content, holds_scalar, object_in, ◌>>=◌}
 use Rattle.plist_object.specs.declared.object.ObjectFault.{ObjectFault}
 use Rattle.plist_object.specs.declared.object.ObjectFault.TheVariants.{BadOffset}
 
@@ -30,13 +30,13 @@ marker_at f i = let place = place_of f i in if nat_lt place (trailer_of f).table
     then slice_index_or f place 0 else 0
 
 -- the content of object i and the bytes after it up to the offset table, or its first error
-unfoldable pub object_at : List ℕ → ℕ → Result (Held × List ℕ) ObjectFault
+unfoldable pub object_at : List ℕ → ℕ → Result (Content × List ℕ) ObjectFault
 object_at f i = do
   octets ← octets_at f i
   object_in (trailer_of f).reference_width octets
 
 -- the content of object i, or its first error
-unfoldable pub what_holds : List ℕ → ℕ → Result Held ObjectFault
+unfoldable pub what_holds : List ℕ → ℕ → Result Content ObjectFault
 what_holds f i = do
   read ← object_at f i
   Ok read.0
@@ -48,7 +48,7 @@ span_of f i = do
   Ok (place_of f i, (trailer_of f).table - length read.1)
 
 -- object i is one of the file's, and this is its content
-pub record Holds (f : List ℕ) (i : ℕ) (held : Held) : Type 0 where
+pub record Holds (f : List ℕ) (i : ℕ) (held : Content) : Type 0 where
   pub listed : i < (trailer_of f).count
   pub reads : what_holds f i ≡ Ok held
 

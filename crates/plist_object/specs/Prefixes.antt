@@ -8,7 +8,7 @@ use Rattle.plist_value.specs.declared.text_ref.TextRef.{TextRef}
 use Rattle.plist_object.specs.declared.order.Row.{Row}
 use Rattle.plist_object.specs.declared.prefixes.Width.{Width}
 use Rattle.plist_object.specs.declared.prefixes.Width.TheVariants.{Bits8, Bits16}
-use Rattle.plist_object.specs.KeyOrder.{number_of, units_at}
+use Rattle.plist_object.specs.KeyOrder.{sort_key, row_units}
 
 -- the digit for the first unit: `most` for a greater unit, and 0 at the end
 abbrev pub digit_of : ℕ → List ℕ → ℕ
@@ -39,9 +39,9 @@ IsNarrow units = All (λ unit. unit < 256) (take 8 units)
 -- after the first `front`
 abbrev pub in_run : List TextRef → ℕ → ℕ → Width → Row → Row
 in_run texts start front width row = record {
-  prefix = prefix_of width (drop front (units_at texts row));
+  prefix = prefix_of width (drop front (row_units texts row));
   run = start;
-  place = row.place;
+  index = row.index;
 }
 
 -- The rows of the run that begins at index `start` were numbered and sorted. Their strings share
@@ -51,7 +51,7 @@ pub record IsRunSorted (texts : List TextRef) (start : ℕ) (old new : List Row)
   pub front : ℕ
   pub width : Width
   pub first : List ℕ
-  pub shared : All (λ row. take front (units_at texts row) ≡ take front first) old
-  pub fits : width ≡ Bits8 ↔ All (λ row. IsNarrow (drop front (units_at texts row))) old
+  pub shared : All (λ row. take front (row_units texts row) ≡ take front first) old
+  pub fits : width ≡ Bits8 ↔ All (λ row. IsNarrow (drop front (row_units texts row))) old
   pub moved : IsPermutation (map (in_run texts start front width) old) new
-  pub sorted : IsNonDecreasingBy number_of new
+  pub sorted : IsNonDecreasingBy sort_key new

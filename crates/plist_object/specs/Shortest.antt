@@ -5,7 +5,7 @@ use Rattle.std.specs.List.{list_all}
 use Rattle.plist_value.specs.Plist.{Scalar, IsWhole}
 use Rattle.plist_value.specs.Texts.{wide_units}
 use Rattle.plist_object.specs.Layout.{trailer_of}
-use Rattle.plist_object.specs.Objects.{Held, holds_scalar, holds_list, holds_table, object_in}
+use Rattle.plist_object.specs.Objects.{Content, holds_scalar, holds_list, holds_table, object_in}
 use Rattle.plist_object.specs.Places.{octets_at, what_holds}
 use Rattle.plist_object.specs.Heads.{Begins}
 use Rattle.plist_object.specs.Sizes.{head_size}
@@ -14,7 +14,7 @@ use Rattle.plist_object.specs.Spelling.{table_spelling}
 use Rattle.plist_object.specs.Views.{first_of}
 
 -- the canonical encoding of the content, with references of `width` bytes
-abbrev pub spelling_of : ℕ → Held → List ℕ
+abbrev pub spelling_of : ℕ → Content → List ℕ
 spelling_of width (holds_scalar s) = scalar_spelling s
 spelling_of width (holds_list refs) = list_spelling width refs
 spelling_of width (holds_table keys values) = table_spelling width keys values
@@ -23,7 +23,7 @@ spelling_of width (holds_table keys values) = table_spelling width keys values
 -- width of a reference.
 pub record IsShortest (f : List ℕ) (i : ℕ) : Type 0 where
   pub octets : List ℕ
-  pub held : Held
+  pub held : Content
   pub behind : List ℕ
   pub stands : octets_at f i ≡ Ok octets
   pub reads : object_in (trailer_of f).reference_width octets ≡ Ok (held, behind)

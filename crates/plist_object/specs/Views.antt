@@ -1,7 +1,7 @@
 -- How contracts view a file, references and an object.
 use Rattle.std.specs.Prelude.{◌≡◌, ℕ, List, Result, Ok, Err}
 use Rattle.plist_value.specs.Scalars.{content_of}
-use Rattle.plist_object.specs.Objects.{Held, holds_scalar, holds_list, holds_table, numbers}
+use Rattle.plist_object.specs.Objects.{Content, holds_scalar, holds_list, holds_table, numbers}
 use Rattle.plist_object.specs.declared.layout.BinFile.{BinFile}
 use Rattle.plist_object.specs.declared.refs.Refs.{Refs}
 use Rattle.plist_object.specs.declared.object.Object.{Object}
@@ -13,7 +13,7 @@ octets_of file = file.octets.now
 abbrev pub numbers_of : Refs → List ℕ
 numbers_of refs = numbers refs.width refs.count refs.octets.now
 
-abbrev pub held_of : Object → Held
+abbrev pub held_of : Object → Content
 held_of (Scalar s) = holds_scalar (content_of s)
 held_of (ListOf items) = holds_list (numbers_of items)
 held_of (Table keys values) = holds_table (numbers_of keys) (numbers_of values)

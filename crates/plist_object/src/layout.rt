@@ -126,7 +126,7 @@ impl Trailer {
 impl<'a> BinFile<'a> {
     ghost use Rattle.plist_value.specs.Plist.{AreUnits, text};
     ghost use Rattle.plist_value.specs.Texts.{units_of};
-    ghost use Rattle.plist_object.specs.Objects.{IsHeld, holds_scalar};
+    ghost use Rattle.plist_object.specs.Objects.{IsContent, holds_scalar};
     ghost use Rattle.plist_object.specs.Places.{Holds, marker_at, octets_at, octets_from};
     ghost use Rattle.plist_object.specs.Places.{object_at, place_of, span_of, what_holds};
     ghost use Rattle.plist_object.specs.Shortest.{IsShortest, IsSpelledScalar};
@@ -232,7 +232,7 @@ impl<'a> BinFile<'a> {
     pub fn object(&self, n: u64) -> Result<Object<'a>, ObjectFault>
         requires { n < (trailer_of (octets_of self.now)).count }
         ensures read { Gives held_of result (what_holds (octets_of self.now) n) }
-        ensures valid { IfOk result (λ object. IsHeld (held_of object)) }
+        ensures valid { IfOk result (λ object. IsContent (held_of object)) }
     {
         let octets = self.octets_at(n)?;
         reading::held(octets, self.trailer.reference_width)
@@ -289,7 +289,7 @@ impl<'a> BinFile<'a> {
         requires { n < (trailer_of (octets_of self.now)).count }
         ensures read { Gives (λ s. held_of s.object) result (what_holds (octets_of self.now) n) }
         ensures span { Gives (λ s. (s.start, s.end)) result (span_of (octets_of self.now) n) }
-        ensures valid { IfOk result (λ s. IsHeld (held_of s.object)) }
+        ensures valid { IfOk result (λ s. IsContent (held_of s.object)) }
     {
         let start = self.place(n);
         let octets = self.octets_from(start)?;

@@ -32,7 +32,7 @@ pub fn width_of(n: u64) -> u8
 /// # Errors
 ///
 /// Fails if the number is 2^32 or above: no memory could contain that many objects.
-pub fn short(number: u64) -> Result<u32, AllocError>
+pub fn to_u32(number: u64) -> Result<u32, AllocError>
     ensures value { IfOk result (λ short. short ≡ number) }
     ensures fits { IsOk result ↔ number < 2 ^ 32 }
 {

@@ -23,7 +23,7 @@ mod units;
 
 pub use judged_file::JudgedFile;
 pub use layout::{BinFile, LayoutFault, Spanned};
-pub use lengths::{list_length, scalar_length, short, table_length, width_of};
+pub use lengths::{list_length, scalar_length, table_length, to_u32, width_of};
 pub use markers::HEADER;
 pub use object::{Object, ObjectFault};
 pub use order::{KeyOrder, text_of};

@@ -13,12 +13,12 @@ ghost use Rattle.plist_object.specs.Places.{Holds, HoldsText};
 ghost use Rattle.plist_object.specs.Views.{numbers_of, octets_of};
 ghost use Rattle.plist_object.specs.Order.{Ascend, IsInOrder, NameTexts};
 ghost use Rattle.plist_object.specs.KeyOrder.{AreRows, AreTexts, IsRankOf, IsReady, TellsOrder};
-ghost use Rattle.plist_object.specs.KeyOrder.{by_number, number_of, place_of, places_of, units_at};
+ghost use Rattle.plist_object.specs.KeyOrder.{by_number, sort_key, index_of, indices_of, row_units};
 ghost use Rattle.plist_object.specs.Ranks.{AreRanks};
 
 use crate::keys::Keys;
 use crate::layout::BinFile;
-use crate::lengths::short;
+use crate::lengths::to_u32;
 use crate::prefixes;
 use crate::ranks::Ranks;
 use crate::refs::Refs;
@@ -42,12 +42,12 @@ const PREFIXES: u128 = 0x1_0000_0000_0000_0000;
 pub(crate) struct Row {
     pub(crate) prefix: u64,
     pub(crate) run: u32,
-    pub(crate) place: u32,
+    pub(crate) index: u32,
 }
 
 impl Row {
     pub(crate) fn number(&self) -> u128
-        ensures { result ≡ number_of self.now }
+        ensures { result ≡ sort_key self.now }
     {
         PREFIXES * u128::from(self.run) + u128::from(self.prefix)
     }
@@ -68,7 +68,7 @@ struct Rows<'a> {
 #[derive(Drop)]
 pub struct KeyOrder<'a> {
     last: Option<Refs<'a>>,
-    places: Vec<u32>,
+    indices: Vec<u32>,
     // Whether no two of these keys are equal.
     distinct: bool,
     // The keys that were last found to ascend in the order of the file.
@@ -85,7 +85,7 @@ impl<'a> KeyOrder<'a> {
     {
         KeyOrder {
             last: None,
-            places: Vec::new(alloc),
+            indices: Vec::new(alloc),
             distinct: true,
             ascending: None,
             left: Some(file.table()),
@@ -95,14 +95,14 @@ impl<'a> KeyOrder<'a> {
 
     /// Returns the positions of the keys sorted last, counted from 0, in ascending order of their
     /// strings by UTF-16 units.
-    pub fn places(&self) -> &[u32]
-        ensures { result.now ≡ places_of self.now }
+    pub fn indices(&self) -> &[u32]
+        ensures { result.now ≡ indices_of self.now }
     {
-        &self.places
+        &self.indices
     }
 
     /// Sorts the keys of a dictionary and returns whether no two are equal.
-    /// [`places`](KeyOrder::places) then returns their order.
+    /// [`indices`](KeyOrder::indices) then returns their order.
     ///
     /// # Errors
     ///
@@ -116,9 +116,9 @@ impl<'a> KeyOrder<'a> {
         requires names { NameTexts (octets_of file.now) (numbers_of keys.now) }
         requires ready { IsReady (octets_of file.now) self.old }
         ensures order { OnOk result (IsInOrder (octets_of file.now) (numbers_of keys.now)
-            (places_of self.new)) }
+            (indices_of self.new)) }
         ensures distinct { IfOk result (λ distinct. IsTrue distinct
-            ↔ Ascend (octets_of file.now) (numbers_of keys.now) (places_of self.new)) }
+            ↔ Ascend (octets_of file.now) (numbers_of keys.now) (indices_of self.new)) }
         ensures ready { IsReady (octets_of file.now) self.new }
     {
         if let Some(last) = self.last
@@ -129,9 +129,9 @@ impl<'a> KeyOrder<'a> {
         let Rows { texts, mut list } = self.rows(alloc, file, keys)?;
         sort_rows(&mut list, &texts);
         let distinct = ascend(&list, &texts);
-        let places = places_in_turn(alloc, &list)?;
+        let indices = indices_in_order(alloc, &list)?;
         self.last = Some(*keys);
-        self.places = places;
+        self.indices = indices;
         self.distinct = distinct;
         Ok(distinct)
     }
@@ -178,15 +178,15 @@ fn ranked_rows<'a>(
 {
     let mut texts = Vec::with_capacity(alloc, keys.len() as usize)?;
     let mut list = Vec::with_capacity(alloc, keys.len() as usize)?;
-    for place in 0..keys.len() {
-        let Some((prefix, text)) = ranked(ranks, keys.get(place)) else {
+    for index in 0..keys.len() {
+        let Some((prefix, text)) = ranked(ranks, keys.get(index)) else {
             return text_rows(alloc, texts_of(alloc, file, keys)?);
         };
         texts.push(text)?;
         list.push(Row {
             prefix,
             run: 0,
-            place: short(place)?,
+            index: to_u32(index)?,
         })?;
     }
     Ok(Rows { texts, list })
@@ -212,8 +212,8 @@ fn texts_of<'a>(
         texts.items) }
 {
     let mut texts = Vec::with_capacity(alloc, keys.len() as usize)?;
-    for place in 0..keys.len() {
-        texts.push(text_of(file, keys.get(place)))?;
+    for index in 0..keys.len() {
+        texts.push(text_of(file, keys.get(index)))?;
     }
     Ok(texts)
 }
@@ -233,11 +233,11 @@ fn text_rows<'a>(alloc: Global, texts: Vec<TextRef<'a>>) -> Result<Rows<'a>, All
     ensures rows { IfOk result (λ rows. AreRows texts.entry.items rows.list.items) }
 {
     let mut list = Vec::with_capacity(alloc, texts.len())?;
-    for place in 0..texts.len() {
+    for index in 0..texts.len() {
         list.push(Row {
             prefix: 0,
             run: 0,
-            place: short(place as u64)?,
+            index: to_u32(index as u64)?,
         })?;
     }
     sort_by_prefixes(list.as_mut_slice(), &texts);
@@ -248,10 +248,10 @@ fn text_rows<'a>(alloc: Global, texts: Vec<TextRef<'a>>) -> Result<Rows<'a>, All
 // prefixes by those that follow. Each row gets its number here.
 fn sort_by_prefixes(rows: &mut [Row], texts: &[TextRef])
     requires tell { All (λ row. All (TellsOrder texts.now row) rows.old) rows.old }
-    requires sorted { IsNonDecreasingBy number_of rows.old }
+    requires sorted { IsNonDecreasingBy sort_key rows.old }
     requires small { length rows.old ≤ 2 ^ 32 }
     ensures tell { All (λ row. All (TellsOrder texts.now row) rows.new) rows.new }
-    ensures moved { IsPermutation (map place_of rows.old) (map place_of rows.new) }
+    ensures moved { IsPermutation (map index_of rows.old) (map index_of rows.new) }
     ensures long { length rows.new ≡ length rows.old }
 {
     if rows.len() <= FEW_KEYS {
@@ -291,7 +291,7 @@ fn compare(texts: &[TextRef], row: &Row, other: &Row) -> Ordering
 
 // Returns whether each number is below the next.
 fn numbers_rise(rows: &[Row]) -> bool
-    ensures { IsTrue result → AllAdjacentBelow (λ row next. number_of row < number_of next)
+    ensures { IsTrue result → AllAdjacentBelow (λ row next. sort_key row < sort_key next)
         rows.now (length rows.now) }
 {
     for i in 1..rows.len() {
@@ -306,7 +306,7 @@ fn numbers_rise(rows: &[Row]) -> bool
 fn ascend(rows: &[Row], texts: &[TextRef]) -> bool
     requires { All (λ row. All (TellsOrder texts.now row) rows.now) rows.now }
     ensures { IsTrue result
-        ↔ IsStrictlySortedBy (slice_cmp nat_cmp) (map (units_at texts.now) rows.now) }
+        ↔ IsStrictlySortedBy (slice_cmp nat_cmp) (map (row_units texts.now) rows.now) }
 {
     for i in 1..rows.len() {
         if !is_below(texts, &rows[i - 1], &rows[i]) {
@@ -318,30 +318,30 @@ fn ascend(rows: &[Row], texts: &[TextRef]) -> bool
 
 fn is_below(texts: &[TextRef], row: &Row, next: &Row) -> bool
     requires { TellsOrder texts.now row.now next.now }
-    ensures { IsTrue result ↔ (slice_cmp nat_cmp (units_at texts.now row.now)
-        (units_at texts.now next.now) ≡ Ordering.Less) }
+    ensures { IsTrue result ↔ (slice_cmp nat_cmp (row_units texts.now row.now)
+        (row_units texts.now next.now) ≡ Ordering.Less) }
 {
     row.number() < next.number() || text_at(texts, row) < text_at(texts, next)
 }
 
 // Returns the string of the key.
 pub(crate) fn text_at<'a>(texts: &[TextRef<'a>], row: &Row) -> TextRef<'a>
-    ensures { units_of result ≡ units_at texts.now row.now }
+    ensures { units_of result ≡ row_units texts.now row.now }
 {
-    match texts.get(row.place as usize) {
+    match texts.get(row.index as usize) {
         Some(text) => *text,
         None => TextRef::of_units(&[]),
     }
 }
 
-fn places_in_turn(alloc: Global, rows: &[Row]) -> Result<Vec<u32>, AllocError>
-    ensures { IfOk result (λ places. places.items ≡ map place_of rows.now) }
+fn indices_in_order(alloc: Global, rows: &[Row]) -> Result<Vec<u32>, AllocError>
+    ensures { IfOk result (λ indices. indices.items ≡ map index_of rows.now) }
 {
-    let mut places = Vec::with_capacity(alloc, rows.len())?;
+    let mut indices = Vec::with_capacity(alloc, rows.len())?;
     for row in rows {
-        places.push(row.place)?;
+        indices.push(row.index)?;
     }
-    Ok(places)
+    Ok(indices)
 }
 
 /// Returns the string that an object contains.

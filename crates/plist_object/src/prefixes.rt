@@ -3,7 +3,7 @@ ghost use Rattle.std.specs.List.Sorted.{IsNonDecreasingBy, IsPermutation};
 ghost use Rattle.std.specs.Prelude.{◌≡◌, ◌↔◌, ◌<◌, ◌≤◌, ◌+◌, ◌-◌, ◌^◌, ℕ, IsTrue, List, All, map, take};
 ghost use Rattle.std.specs.Prelude.{drop, length, slice_index_or};
 ghost use Rattle.plist_value.specs.Texts.{units_of, wide_units};
-ghost use Rattle.plist_object.specs.KeyOrder.{TellsOrder, number_of, place_of, units_at};
+ghost use Rattle.plist_object.specs.KeyOrder.{TellsOrder, sort_key, index_of, row_units};
 ghost use Rattle.plist_object.specs.Prefixes.{behind, digit_of, digits_of, in_run, prefix_of};
 ghost use Rattle.plist_object.specs.Prefixes.{IsNarrow, IsRunSorted};
 
@@ -24,11 +24,11 @@ pub(crate) enum Width {
 // shares, and numbers the rows anew.
 pub(crate) fn sort_runs(rows: &mut [Row], texts: &[TextRef])
     requires tell { All (λ row. All (TellsOrder texts.now row) rows.old) rows.old }
-    requires sorted { IsNonDecreasingBy number_of rows.old }
+    requires sorted { IsNonDecreasingBy sort_key rows.old }
     requires small { length rows.old ≤ 2 ^ 32 }
     ensures tell { All (λ row. All (TellsOrder texts.now row) rows.new) rows.new }
-    ensures sorted { IsNonDecreasingBy number_of rows.new }
-    ensures moved { IsPermutation (map place_of rows.old) (map place_of rows.new) }
+    ensures sorted { IsNonDecreasingBy sort_key rows.new }
+    ensures moved { IsPermutation (map index_of rows.old) (map index_of rows.new) }
     ensures long { length rows.new ≡ length rows.old }
 {
     let mut start = 0;
@@ -44,8 +44,8 @@ fn run_end(rows: &[Row], start: usize) -> usize
     requires { start < length rows.now }
     ensures within { (start < result) × (result ≤ length rows.now) }
     ensures rises { result < length rows.now → (d : Row)
-        → number_of (slice_index_or rows.now (result - 1) d)
-        < number_of (slice_index_or rows.now result d) }
+        → sort_key (slice_index_or rows.now (result - 1) d)
+        < sort_key (slice_index_or rows.now result d) }
 {
     for end in start + 1..rows.len() {
         if rows[end - 1].number() < rows[end].number() {
@@ -69,7 +69,7 @@ fn sort_run(rows: &mut [Row], texts: &[TextRef], start: u32)
 // Returns the number of leading units that all strings share.
 fn shared(rows: &[Row], texts: &[TextRef]) -> usize
     ensures { (first : List ℕ)
-        × All (λ row. take result (units_at texts.now row) ≡ take result first) rows.now }
+        × All (λ row. take result (row_units texts.now row) ≡ take result first) rows.now }
 {
     let [first, others @ ..] = rows else {
         return 0;
@@ -86,7 +86,7 @@ fn shared(rows: &[Row], texts: &[TextRef]) -> usize
 // fit, and else 16, so that strings in most scripts do not all have the same prefix.
 fn width_of(rows: &[Row], texts: &[TextRef], front: usize) -> Width
     ensures { result ≡ Width.Bits8
-        ↔ All (λ row. IsNarrow (drop front (units_at texts.now row))) rows.now }
+        ↔ All (λ row. IsNarrow (drop front (row_units texts.now row))) rows.now }
 {
     for row in rows {
         if !is_narrow(&text_at(texts, row), front) {
@@ -257,11 +257,11 @@ fn units_prefix(text: &TextRef, front: usize) -> u64
     ensures { result ≡ digits_of 255 8 (drop front (units_of text.now)) }
 {
     let mut prefix = 0;
-    let mut place = front;
+    let mut index = front;
     for read in 0..8_u32 {
-        let (digit, next) = digit_at(text, place, 255);
+        let (digit, next) = digit_at(text, index, 255);
         prefix = 256 * prefix + digit;
-        place = next;
+        index = next;
     }
     prefix
 }
@@ -270,29 +270,29 @@ fn wide_prefix(text: &TextRef, front: usize) -> u64
     ensures { result ≡ digits_of 65535 4 (drop front (units_of text.now)) }
 {
     let mut prefix = 0;
-    let mut place = front;
+    let mut index = front;
     for read in 0..4_u32 {
-        let (digit, next) = digit_at(text, place, 65535);
+        let (digit, next) = digit_at(text, index, 65535);
         prefix = 65536 * prefix + digit;
-        place = next;
+        index = next;
     }
     prefix
 }
 
 // Returns the digit for the unit at the position, and the position of the unit for the next digit.
 #[inline(always)]
-fn digit_at(text: &TextRef, place: usize, most: u16) -> (u64, usize)
-    ensures digit { result.0 ≡ digit_of most (drop place (units_of text.now)) }
+fn digit_at(text: &TextRef, index: usize, most: u16) -> (u64, usize)
+    ensures digit { result.0 ≡ digit_of most (drop index (units_of text.now)) }
     ensures next { drop result.1 (units_of text.now) ≡ behind most
-        (drop place (units_of text.now)) }
+        (drop index (units_of text.now)) }
 {
-    if place >= text.len() {
-        return (0, place);
+    if index >= text.len() {
+        return (0, index);
     }
-    let unit = text.unit(place);
+    let unit = text.unit(index);
     if unit > most {
-        (u64::from(most), place)
+        (u64::from(most), index)
     } else {
-        (u64::from(unit), place + 1)
+        (u64::from(unit), index + 1)
     }
 }

@@ -3,7 +3,7 @@
 ghost use Rattle.std.specs.Prelude.{◌≡◌, ◌≢◌, ◌+◌, ◌*◌, ◌<◌, ◌≤◌, ◌/◌, ◌%◌, ◌^◌, ◌∷◌, length};
 ghost use Rattle.std.specs.Prelude.{IfOk, IfSome, Ok, ℕ};
 ghost use Rattle.byteorder.specs.Endian.{big_number};
-ghost use Rattle.plist_object.specs.Objects.{IsHeld, holds_scalar, cut, integer_length};
+ghost use Rattle.plist_object.specs.Objects.{IsContent, holds_scalar, cut, integer_length};
 ghost use Rattle.plist_object.specs.Objects.{count_spelled, content, whole_in};
 ghost use Rattle.plist_object.specs.Objects.{simple_object, whole_object, real_object};
 ghost use Rattle.plist_object.specs.Objects.{moment_object, data_object, ascii_object, wide_object};
@@ -12,7 +12,7 @@ ghost use Rattle.plist_object.specs.Views.{Gives, first_of, held_of};
 ghost use Rattle.plist_value.specs.Plist.{AreOctets, AreUnits, text};
 ghost use Rattle.plist_value.specs.Texts.{units_of};
 ghost use Rattle.plist_value.specs.Plist as kind;
-ghost use Rattle.plist_value.specs.Wholes.{number_of};
+ghost use Rattle.plist_value.specs.Wholes.{integer_of};
 
 use crate::markers::{
     ASCII, DATA, EIGHT_OCTETS, FALSE, FOUR_OCTETS, LIST, MOMENT, NULL, REAL, SET, SIMPLE, TABLE,
@@ -141,7 +141,7 @@ fn items(octets: &[u8], count: usize, unit: usize) -> Read<'_, Counted<'_>>
 #[tactic(auto, unfolding(crate::specs::Objects::simple_object))]
 fn simple(octets: &[u8], low: u8) -> Read<'_, Object<'_>>
     ensures read { Gives (λ p. (held_of p.0, p.1.now)) result (simple_object low octets.entry.now) }
-    ensures valid { IfOk result (λ p. IsHeld (held_of p.0)) }
+    ensures valid { IfOk result (λ p. IsContent (held_of p.0)) }
 {
     match low {
         NULL => Err(ObjectFault::NullObject),
@@ -156,7 +156,7 @@ fn whole_in(octets: &[u8], n: usize) -> Result<Whole, ObjectFault>
     requires whole { length octets.now ≡ n }
     requires some { 1 ≤ n }
     requires small { n ≢ 16 → n ≤ 8 }
-    ensures { Gives number_of result (whole_in n octets.now) }
+    ensures { Gives integer_of result (whole_in n octets.now) }
 {
     let number = match n {
         16 if BigEndian::read_u64(octets) != 0 => return Err(ObjectFault::WideInteger),
@@ -172,7 +172,7 @@ fn whole_in(octets: &[u8], n: usize) -> Result<Whole, ObjectFault>
 fn whole(octets: &[u8], low: u8) -> Read<'_, Object<'_>>
     requires { low < 16 }
     ensures read { Gives (λ p. (held_of p.0, p.1.now)) result (whole_object low octets.entry.now) }
-    ensures valid { IfOk result (λ p. IsHeld (held_of p.0)) }
+    ensures valid { IfOk result (λ p. IsContent (held_of p.0)) }
 {
     let n = integer_length(WHOLE_1 + low)?;
     let (digits, rest) = cut(octets, n)?;
@@ -182,21 +182,21 @@ fn whole(octets: &[u8], low: u8) -> Read<'_, Object<'_>>
 
 fn real4<'a>(octets: [u8; 4]) -> Object<'a>
     ensures held { held_of result ≡ holds_scalar (kind.real4 octets) }
-    ensures valid { IsHeld (held_of result) }
+    ensures valid { IsContent (held_of result) }
 {
     Object::Scalar(ScalarRef::Real4(octets))
 }
 
 fn real8<'a>(octets: [u8; 8]) -> Object<'a>
     ensures held { held_of result ≡ holds_scalar (kind.real8 octets) }
-    ensures valid { IsHeld (held_of result) }
+    ensures valid { IsContent (held_of result) }
 {
     Object::Scalar(ScalarRef::Real8(octets))
 }
 
 fn date<'a>(octets: [u8; 8]) -> Object<'a>
     ensures held { held_of result ≡ holds_scalar (kind.moment octets) }
-    ensures valid { IsHeld (held_of result) }
+    ensures valid { IsContent (held_of result) }
 {
     Object::Scalar(ScalarRef::Moment(octets))
 }
@@ -205,7 +205,7 @@ fn date<'a>(octets: [u8; 8]) -> Object<'a>
 #[tactic(auto, unfolding(crate::specs::Objects::real_object))]
 fn real(octets: &[u8], low: u8) -> Read<'_, Object<'_>>
     ensures read { Gives (λ p. (held_of p.0, p.1.now)) result (real_object low octets.entry.now) }
-    ensures valid { IfOk result (λ p. IsHeld (held_of p.0)) }
+    ensures valid { IfOk result (λ p. IsContent (held_of p.0)) }
 {
     match low {
         FOUR_OCTETS => {
@@ -224,7 +224,7 @@ fn real(octets: &[u8], low: u8) -> Read<'_, Object<'_>>
 #[tactic(auto, unfolding(crate::specs::Objects::moment_object))]
 fn moment(octets: &[u8], low: u8) -> Read<'_, Object<'_>>
     ensures read { Gives (λ p. (held_of p.0, p.1.now)) result (moment_object low octets.entry.now) }
-    ensures valid { IfOk result (λ p. IsHeld (held_of p.0)) }
+    ensures valid { IfOk result (λ p. IsContent (held_of p.0)) }
 {
     if low != EIGHT_OCTETS {
         return Err(ObjectFault::BadMarker);
@@ -237,7 +237,7 @@ fn moment(octets: &[u8], low: u8) -> Read<'_, Object<'_>>
 #[tactic(auto, unfolding(crate::specs::Objects::data_object))]
 fn data(octets: &[u8], low: u8) -> Read<'_, Object<'_>>
     ensures read { Gives (λ p. (held_of p.0, p.1.now)) result (data_object low octets.entry.now) }
-    ensures valid { IfOk result (λ p. IsHeld (held_of p.0)) }
+    ensures valid { IfOk result (λ p. IsContent (held_of p.0)) }
 {
     let (data, rest) = content(octets, low, 1)?;
     Ok((Object::Scalar(ScalarRef::Bytes(data.octets)), rest))
@@ -247,7 +247,7 @@ fn data(octets: &[u8], low: u8) -> Read<'_, Object<'_>>
 #[tactic(auto, unfolding(crate::specs::Objects::ascii_object))]
 fn ascii(octets: &[u8], low: u8) -> Read<'_, Object<'_>>
     ensures read { Gives (λ p. (held_of p.0, p.1.now)) result (ascii_object low octets.entry.now) }
-    ensures valid { IfOk result (λ p. IsHeld (held_of p.0)) }
+    ensures valid { IfOk result (λ p. IsContent (held_of p.0)) }
 {
     let (ascii, rest) = content(octets, low, 1)?;
     let text = TextRef::of_ascii(ascii.octets).ok_or(ObjectFault::NotAscii)?;
@@ -261,7 +261,7 @@ fn list(octets: &[u8], low: u8, width: u8) -> Read<'_, Object<'_>>
     requires width_most { width ≤ 8 }
     ensures read { Gives (λ p. (held_of p.0, p.1.now)) result
         (list_object width low octets.entry.now) }
-    ensures valid { IfOk result (λ p. IsHeld (held_of p.0)) }
+    ensures valid { IfOk result (λ p. IsContent (held_of p.0)) }
 {
     let (items, rest) = content(octets, low, usize::from(width))?;
     let refs = Refs::of(items.octets, width, items.count);
@@ -275,7 +275,7 @@ fn table(octets: &[u8], low: u8, width: u8) -> Read<'_, Object<'_>>
     requires width_most { width ≤ 8 }
     ensures read { Gives (λ p. (held_of p.0, p.1.now)) result
         (table_object width low octets.entry.now) }
-    ensures valid { IfOk result (λ p. IsHeld (held_of p.0)) }
+    ensures valid { IfOk result (λ p. IsContent (held_of p.0)) }
 {
     let (pairs, rest) = content(octets, low, 2 * usize::from(width))?;
     let (keys, values) = pairs.octets.split_at(pairs.octets.len() / 2);
@@ -288,7 +288,7 @@ fn table(octets: &[u8], low: u8, width: u8) -> Read<'_, Object<'_>>
 #[tactic(auto, unfolding(crate::specs::Objects::wide_object))]
 fn wide(octets: &[u8], low: u8) -> Read<'_, Object<'_>>
     ensures read { Gives (λ p. (held_of p.0, p.1.now)) result (wide_object low octets.entry.now) }
-    ensures valid { IfOk result (λ p. IsHeld (held_of p.0)) }
+    ensures valid { IfOk result (λ p. IsContent (held_of p.0)) }
 {
     let (wide, rest) = content(octets, low, 2)?;
     let text = TextRef::of_wide(wide.octets).ok_or(ObjectFault::CutObject)?;
@@ -337,7 +337,7 @@ pub(crate) fn object(octets: &[u8], width: u8) -> Read<'_, Object<'_>>
     requires width_least { 1 ≤ width }
     requires width_most { width ≤ 8 }
     ensures read { Gives (λ p. (held_of p.0, p.1.now)) result (object_in width octets.entry.now) }
-    ensures valid { IfOk result (λ p. IsHeld (held_of p.0)) }
+    ensures valid { IfOk result (λ p. IsContent (held_of p.0)) }
 {
     let Some((marker, octets)) = octets.split_first() else {
         return Err(ObjectFault::CutObject);
@@ -366,7 +366,7 @@ pub(crate) fn held(octets: &[u8], width: u8) -> Result<Object<'_>, ObjectFault>
     requires width_least { 1 ≤ width }
     requires width_most { width ≤ 8 }
     ensures read { Gives held_of result (first_of (object_in width octets.entry.now)) }
-    ensures valid { IfOk result (λ object. IsHeld (held_of object)) }
+    ensures valid { IfOk result (λ object. IsContent (held_of object)) }
 {
     let Some((marker, octets)) = octets.split_first() else {
         return Err(ObjectFault::CutObject);

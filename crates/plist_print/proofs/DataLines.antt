@@ -6,7 +6,7 @@ use Rattle.std.proofs.lemmas.Bool.{cases_lt, cond_both}
 use Rattle.std.proofs.lemmas.List.{take_all, drop_all}
 use Rattle.plist_value.specs.Plist.{bytes}
 use Rattle.plist_value.specs.Digits.{two_digits}
-use Rattle.plist_engine.specs.Output.{Puts}
+use Rattle.plist_write.specs.BufferedSink.{PutsPiece}
 use Rattle.plist_print.specs.Units.{printed_data}
 use Rattle.plist_print.specs.Printed.{indent, enclosed, octet_lines, printed_line}
 use Rattle.plist_print.proofs.Compared.{le-tells, le-denied}
@@ -63,7 +63,7 @@ drop-least xs = elim (cases_lt 32 (length xs)) [
 ]
 
 -- the line of the first bytes was appended
-pub puts-line : (blanks old new xs front left : List ℕ) → 0 < length xs → front ≡ take (min (length xs) 32) xs → left ≡ drop (min (length xs) 32) xs → new ≡ old ++ data_line blanks front → Puts old new (octet_lines blanks xs) (octet_lines blanks left)
+pub puts-line : (blanks old new xs front left : List ℕ) → 0 < length xs → front ≡ take (min (length xs) 32) xs → left ≡ drop (min (length xs) 32) xs → new ≡ old ++ data_line blanks front → PutsPiece old new (octet_lines blanks xs) (octet_lines blanks left)
 puts-line blanks old new xs front left some is rest put = record {
   piece = data_line blanks front;
   put = put;

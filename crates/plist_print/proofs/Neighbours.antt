@@ -5,7 +5,7 @@ use Rattle.std.proofs.lemmas.Bool.{cases_Bool, and_parts, cases_lt}
 use Rattle.std.proofs.lemmas.Bool.Decides.{nat_tests}
 use Rattle.std.proofs.lemmas.Nat.{mul-le, div-mul-add, mod-mul-add, div-add-mod', mod_below}
 use Rattle.std.proofs.Math.Nat.{pow-suc, div-lt_iff_lt-mul, pow-le-pow_right}
-use Rattle.plist_print.specs.Reals.{Format, single, double, Placed, value_of, nearest, reads_as, shortest, placed_in, decimal_of}
+use Rattle.plist_print.specs.Reals.{Format, single, double, Scaled, value_of, nearest, reads_as, shortest, scaled_in, decimal_of}
 use Rattle.plist_print.proofs.Compared.{le-told, lt-told, gt-told}
 
 below-hidden : (h b : ℕ) → b < h → value_of h b ≡ b
@@ -111,11 +111,11 @@ value-ascends h a b pos le =
     omega arith
 
 -- a decimal that reads as a real is between the midpoints to its neighbours
-pub record Between (x : Placed) (over n : ℕ) : Type 0 where
+pub record Between (x : Scaled) (over n : ℕ) : Type 0 where
   pub from : (x.below + x.here) * over ≤ 2 * (n * x.unit)
   pub to : 2 * (n * x.unit) < (x.here + x.above) * over
 
-pub between : (x : Placed) (over n : ℕ) → reads_as x over n ≡ true → Between x over n
+pub between : (x : Scaled) (over n : ℕ) → reads_as x over n ≡ true → Between x over n
 between x over n e =
     let both = and_parts (nat_le ((x.below + x.here) * over) (2 * (n * x.unit))) (nat_lt (2 * (n * x.unit)) ((x.here + x.above) * over)) e in
     record {
@@ -123,10 +123,10 @@ between x over n e =
       to = lt-told (2 * (n * x.unit)) ((x.here + x.above) * over) both.1;
     }
 
-not-both : (f : Format) (a b over n : ℕ) → 0 < f.hidden → a < b → reads_as (placed_in f a) over n ≡ true → reads_as (placed_in f b) over n ≡ true → ⊥
+not-both : (f : Format) (a b over n : ℕ) → 0 < f.hidden → a < b → reads_as (scaled_in f a) over n ≡ true → reads_as (scaled_in f b) over n ≡ true → ⊥
 not-both f a b over n pos lt x y =
-    let p = between (placed_in f a) over n x in
-    let q = between (placed_in f b) over n y in
+    let p = between (scaled_in f a) over n x in
+    let q = between (scaled_in f b) over n y in
     let low = value-ascends f.hidden a (b - 1) pos (omega arith) in
     let high = value-ascends f.hidden (suc a) b pos (omega arith) in
     let c = mul-le (value_of f.hidden a + value_of f.hidden (suc a)) over (value_of f.hidden (b - 1) + value_of f.hidden b) over (omega arith) (omega arith) in
@@ -134,7 +134,7 @@ not-both f a b over n pos lt x y =
     let e = q.from in
     omega arith
 
-pub one-real : (f : Format) (a b over n : ℕ) → 0 < f.hidden → reads_as (placed_in f a) over n ≡ true → reads_as (placed_in f b) over n ≡ true → a ≡ b
+pub one-real : (f : Format) (a b over n : ℕ) → 0 < f.hidden → reads_as (scaled_in f a) over n ≡ true → reads_as (scaled_in f b) over n ≡ true → a ≡ b
 one-real f a b over n pos x y = elim (cases_lt a b) [
   | inl lt ↦ absurd (not-both f a b over n pos lt x y)
   | inr ge ↦ elim (cases_lt b a) [
@@ -144,12 +144,12 @@ one-real f a b over n pos x y = elim (cases_lt a b) [
 ]
 
 -- the decimal found reads as the real
-record Reads (x : Placed) (least n k : ℕ) (most : ℕ) : Type 0 where
+record Reads (x : Scaled) (least n k : ℕ) (most : ℕ) : Type 0 where
   some : least ≤ k
   few : k < most
   reads : reads_as x (10 ^ k) n ≡ true
 
-shortest-reads : (x : Placed) (more digits n k : ℕ) → shortest x more digits ≡ Some (n, k) → Reads x digits n k (digits + more)
+shortest-reads : (x : Scaled) (more digits n k : ℕ) → shortest x more digits ≡ Some (n, k) → Reads x digits n k (digits + more)
 shortest-reads x zero digits n k e = absurd (cc)
 shortest-reads x (suc more) digits n k e = elim (cases_Bool (reads_as x (10 ^ digits) (nearest x (10 ^ digits)))) [
   | inl is ↦ (
@@ -180,13 +180,13 @@ pub record IsDecimal (f : Format) (bits n k : ℕ) : Type 0 where
   pub small : bits / f.hidden < f.to
   pub some : 1 ≤ k
   pub few : k ≤ 21
-  pub reads : reads_as (placed_in f bits) (10 ^ k) n ≡ true
+  pub reads : reads_as (scaled_in f bits) (10 ^ k) n ≡ true
 
 pub decimal-is : (f : Format) (bits n k : ℕ) → decimal_of f bits ≡ Some (n, k) → IsDecimal f bits n k
 unfolding decimal_of
 decimal-is f bits n k e = elim (cases_Bool (nat_lt (bits / f.hidden) f.to)) [
   | inl is ↦ (
-      let found = shortest-reads (placed_in f bits) 21 1 n k (rw is at e) in
+      let found = shortest-reads (scaled_in f bits) 21 1 n k (rw is at e) in
       record { small = lt-told (bits / f.hidden) f.to is; some = found.some; few = omega (arith, found.few); reads = found.reads }
       )
   | inr not ↦ absurd (let none : None ≡ Some (n, k) = rw not at e in cc)
@@ -226,7 +226,7 @@ pub decimal-short : (f : Format) (bits n k : ℕ) → IsFormat f → IsDecimal f
 decimal-short f bits n k format is =
     let h = f.hidden in
     let unit = 2 ^ f.one in
-    let p = between (placed_in f bits) (10 ^ k) n is.reads in
+    let p = between (scaled_in f bits) (10 ^ k) n is.reads in
     let within : bits < f.to * h = (div-lt_iff_lt-mul {k = h} {x = bits} {y = f.to} format.positive).0 is.small in
     let last = value-ascends h (suc bits) (f.to * h) format.positive (omega arith) in
     let here = value-ascends h bits (suc bits) format.positive (omega arith) in

@@ -12,7 +12,7 @@ use Rattle.ucd_category.specs.GeneralCategoryRows.{general_category_rows}
 use Rattle.ucd_derived.specs.Binary.{is_default_ignorable_code_point}
 use Rattle.ucd_derived.specs.DefaultIgnorableCodePointRanges.{default_ignorable_code_point_ranges}
 use Rattle.ucd_table.specs.Rows.{value_in, in_ranges}
-use Rattle.plist_print.specs.Units.{is_unseen, printed_unit, printed_units}
+use Rattle.plist_print.specs.Units.{is_invisible, printed_unit, printed_units}
 use Rattle.plist_print.proofs.Compared.{is-denied}
 
 if-false : (b : Bool) (xs ys : List ℕ) → b ≡ false → (if b then xs else ys) ≡ ys
@@ -29,24 +29,24 @@ pub record IsPlain (u : ℕ) : Type 0 where
 -- the first `n` characters from the space on are visible
 abbrev are_seen : ℕ → Bool
 are_seen zero = true
-are_seen (suc n) = not (is_unseen (32 + n)) && are_seen n
+are_seen (suc n) = not (is_invisible (32 + n)) && are_seen n
 
 ascii_seen : T (are_seen 95)
-unfolding is_unseen general_category general_category_rows is_default_ignorable_code_point default_ignorable_code_point_ranges value_in in_ranges
+unfolding is_invisible general_category general_category_rows is_default_ignorable_code_point default_ignorable_code_point_ranges value_in in_ranges
 ascii_seen = tt
 
 not-true : (b : Bool) → T (not b) → b ≡ false
 not-true true t = absurd t
 not-true false t = refl
 
-one_seen : (n k : ℕ) → T (are_seen n) → k < n → is_unseen (32 + k) ≡ false
+one_seen : (n k : ℕ) → T (are_seen n) → k < n → is_invisible (32 + k) ≡ false
 one_seen zero k t h = absurd (omega arith)
 one_seen (suc n) k t h = elim (eq-zero-or-pos (n - k)) [
-  | inl z ↦ let e : k ≡ n = omega arith in rw e (not-true (is_unseen (32 + n)) (and_l _ (are_seen n) t))
+  | inl z ↦ let e : k ≡ n = omega arith in rw e (not-true (is_invisible (32 + n)) (and_l _ (are_seen n) t))
   | inr g ↦ one_seen n k (and_r _ (are_seen n) t) (omega arith)
 ]
 
-seen : (u : ℕ) → 32 ≤ u → u < 127 → is_unseen u ≡ false
+seen : (u : ℕ) → 32 ≤ u → u < 127 → is_invisible u ≡ false
 seen u low high = let e : u ≡ 32 + (u - 32) = omega arith in rw e (one_seen 95 (u - 32) ascii_seen (omega arith))
 
 no-high : (u : ℕ) → u < 127 → is_high_surrogate u ≡ false
@@ -60,7 +60,7 @@ one u p =
     ∙ if-false (u == 10) _ _ (is-denied u 10 (λ e. omega (arith, e, p.low)))
     ∙ if-false (u == 9) _ _ (is-denied u 9 (λ e. omega (arith, e, p.low)))
     ∙ if-false (u == 13) _ _ (is-denied u 13 (λ e. omega (arith, e, p.low)))
-    ∙ if-false (is_unseen u) _ _ (seen u p.low p.high)
+    ∙ if-false (is_invisible u) _ _ (seen u p.low p.high)
     ∙ encode_ascii u (omega (arith, p.high))
 
 if-pair : (b c : Bool) (xs ys : List ℕ) → b ≡ false → (if b && c then xs else ys) ≡ ys
@@ -72,5 +72,5 @@ printed_units-plain u [] p = one u p
 printed_units-plain u (v ∷ us) p =
     if-pair (is_high_surrogate u) _ _ _ (no-high u p.high) ∙ ap (λ xs. xs ++ printed_units (v ∷ us)) (one u p)
 
-pub ascii : (u : ℕ) → 32 ≤ u → u < 127 → (if is_unseen u then codes "\\U" ++ (two_digits (u / 256) ++ two_digits (u % 256)) else encode_utf8 u) ≡ u ∷ []
-ascii u low high = if-false (is_unseen u) _ _ (seen u low high) ∙ encode_ascii u (omega (arith, high))
+pub ascii : (u : ℕ) → 32 ≤ u → u < 127 → (if is_invisible u then codes "\\U" ++ (two_digits (u / 256) ++ two_digits (u % 256)) else encode_utf8 u) ≡ u ∷ []
+ascii u low high = if-false (is_invisible u) _ _ (seen u low high) ∙ encode_ascii u (omega (arith, high))

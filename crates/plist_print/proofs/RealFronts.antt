@@ -16,7 +16,7 @@ use Rattle.plist_value.specs.Plist.{AreOctets, IsOctetsOf}
 use Rattle.plist_object.proofs.SameOctets.{big_bytes-big_number}
 use Rattle.plist_print.specs.Units.{printed_data}
 use Rattle.plist_value.specs.Digits.{two_digits}
-use Rattle.plist_print.specs.Reals.{Format, double, reads_as, placed_in, decimal_of, last_digits, printed_decimal, printed_size, printed_real}
+use Rattle.plist_print.specs.Reals.{Format, double, reads_as, scaled_in, decimal_of, last_digits, printed_decimal, printed_size, printed_real}
 use Rattle.plist_print.specs.Dates.{second_of, in_brackets, printed_date}
 use Rattle.plist_print.proofs.Fronts.{head_of, tail_of, heads, tails, EndsDigits, digits-front, kind_of_head, digits-kind}
 use Rattle.plist_print.proofs.UnitFronts.{data-front}
@@ -158,7 +158,7 @@ signed-front false false a a' c d r s h g p q same =
 
 -- the shape of a real, and its reason
 data Sized (f : Format) (xs : List ℕ) (bits : ℕ) : Shape → Type 0 where
-  finite : (n k : ℕ) → reads_as (placed_in f bits) (10 ^ k) n ≡ true → Sized f xs bits (as_decimal n k)
+  finite : (n k : ℕ) → reads_as (scaled_in f bits) (10 ^ k) n ≡ true → Sized f xs bits (as_decimal n k)
   far : Sized f xs bits (as_octets xs)
   infinite : bits ≡ f.infinite → Sized f xs bits endless
   none : Sized f xs bits (no_number xs)
@@ -218,7 +218,7 @@ same-bits : (f : Format) (xs ys : List ℕ) (a b : ℕ) (s t : Shape) → 0 < f.
 same-bits f xs ys a b _ _ pos h e (finite n k reads) (finite m j also) =
     let same_n : n ≡ m = ap numerator e in
     let same_k : k ≡ j = ap places e in
-    one-real f a b (10 ^ j) m pos (subst (λ (i : ℕ). reads_as (placed_in f a) (10 ^ i) m ≡ true) same_k (subst (λ (i : ℕ). reads_as (placed_in f a) (10 ^ k) i ≡ true) same_n reads)) also
+    one-real f a b (10 ^ j) m pos (subst (λ (i : ℕ). reads_as (scaled_in f a) (10 ^ i) m ≡ true) same_k (subst (λ (i : ℕ). reads_as (scaled_in f a) (10 ^ k) i ≡ true) same_n reads)) also
 same-bits f xs ys a b _ _ pos h e far far = h (ap octets_in e)
 same-bits f xs ys a b _ _ pos h e (infinite is) (infinite was) = is ∙ sym was
 same-bits f xs ys a b _ _ pos h e none none = h (ap octets_in e)

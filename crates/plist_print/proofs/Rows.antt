@@ -7,7 +7,7 @@ use Rattle.ucd_category.specs.GeneralCategoryRows.{general_category_rows}
 use Rattle.ucd_derived.specs.Binary.{is_default_ignorable_code_point}
 use Rattle.ucd_derived.specs.DefaultIgnorableCodePointRanges.{default_ignorable_code_point_ranges}
 use Rattle.ucd_table.specs.Rows.{value_in, in_ranges}
-use Rattle.plist_print.specs.Units.{is_unseen, printed_unit}
+use Rattle.plist_print.specs.Units.{is_invisible, printed_unit}
 use Rattle.plist_print.specs.Reals.{value_of, decimal_of}
 use Rattle.plist_print.specs.Dates.{days_before, days_of_months, year_of, month_of, printed_day, printed_time, printed_moment, second_of}
 use Rattle.plist_print.specs.Printed.{printed}
@@ -71,21 +71,21 @@ unfolding printed_day year_of month_of days_of_months
 year_end = refl
 
 pub printed_escapes : printed (scalar (text (34 ∷ 92 ∷ 10 ∷ 9 ∷ 13 ∷ 7 ∷ 126 ∷ 127 ∷ []))) ≡ codes "\"\\\"\\\\\\n\\t\\r\\U0007~\\U007f\"\n"
-unfolding printed_unit is_unseen general_category general_category_rows is_default_ignorable_code_point default_ignorable_code_point_ranges value_in in_ranges encode_utf8
+unfolding printed_unit is_invisible general_category general_category_rows is_default_ignorable_code_point default_ignorable_code_point_ranges value_in in_ranges encode_utf8
 printed_escapes = refl
 
 -- `é`, a surrogate pair, a lone surrogate, and a mark that changes the direction
 pub printed_wide : printed (scalar (text (0xe9 ∷ 0xd83d ∷ 0xde00 ∷ 0xde00 ∷ 0x202e ∷ []))) ≡ 34 ∷ 0xc3 ∷ 0xa9 ∷ 0xf0 ∷ 0x9f ∷ 0x98 ∷ 0x80 ∷ codes "\\Ude00\\U202e\"\n"
-unfolding printed_unit is_unseen general_category general_category_rows is_default_ignorable_code_point default_ignorable_code_point_ranges value_in in_ranges encode_utf8
+unfolding printed_unit is_invisible general_category general_category_rows is_default_ignorable_code_point default_ignorable_code_point_ranges value_in in_ranges encode_utf8
 printed_wide = refl
 
 -- a soft hyphen, spaces, a joiner, a filler, and a tag, which is an invisible pair
 pub printed_unseen : printed (scalar (text (0xad ∷ 0xa0 ∷ 0x3000 ∷ 0x200d ∷ 0x3164 ∷ 0xdb40 ∷ 0xdc01 ∷ []))) ≡ codes "\"\\U00ad\\U00a0\\U3000\\U200d\\U3164\\Udb40\\Udc01\"\n"
-unfolding printed_unit is_unseen general_category general_category_rows is_default_ignorable_code_point default_ignorable_code_point_ranges value_in in_ranges encode_utf8
+unfolding printed_unit is_invisible general_category general_category_rows is_default_ignorable_code_point default_ignorable_code_point_ranges value_in in_ranges encode_utf8
 printed_unseen = refl
 
 pub printed_nested : printed (table (pair (codes "a") (list (item (scalar (whole (negsuc 4))) (item (list no_items) no_items))) (pair (codes "b") (table no_pairs) (pair (codes "c") (scalar (flag true)) (pair (codes "d") (scalar (bytes (10 ∷ 11 ∷ []))) no_pairs))))) ≡ codes "{\n  \"a\" => [\n    -5\n    []\n  ]\n  \"b\" => {}\n  \"c\" => true\n  \"d\" => <0a0b>\n}\n"
-unfolding printed_unit is_unseen general_category general_category_rows is_default_ignorable_code_point default_ignorable_code_point_ranges value_in in_ranges encode_utf8 digits
+unfolding printed_unit is_invisible general_category general_category_rows is_default_ignorable_code_point default_ignorable_code_point_ranges value_in in_ranges encode_utf8 digits
 printed_nested = refl
 
 -- data of 33 bytes in an array

@@ -5,14 +5,14 @@ use Rattle.std.proofs.lemmas.Bool.{cases_lt}
 use Rattle.std.proofs.lemmas.Bool.Decides.{nat_tests}
 use Rattle.std.proofs.lemmas.Nat.{mul-le, pow-add, pow_pos}
 use Rattle.std.proofs.Math.Nat.{mul-div-mul_right}
-use Rattle.plist_print.specs.Reals.{Format, Placed, value_of, nearest, reads_as, shortest, placed_in}
+use Rattle.plist_print.specs.Reals.{Format, Scaled, value_of, nearest, reads_as, shortest, scaled_in}
 use Rattle.plist_print.specs.Shown.{halved}
 use Rattle.plist_print.proofs.Neighbours.{value-at}
 
-abbrev pub scaled : ℕ → Placed → Placed
+abbrev pub scaled : ℕ → Scaled → Scaled
 scaled k x = record { below = x.below * k; here = x.here * k; above = x.above * k; unit = x.unit * k }
 
-nearest-scaled : (k over : ℕ) (x : Placed) → 0 < k → nearest (scaled k x) over ≡ nearest x over
+nearest-scaled : (k over : ℕ) (x : Scaled) → 0 < k → nearest (scaled k x) over ≡ nearest x over
 nearest-scaled k over x pos =
     let top : 2 * (x.here * k * over) + x.unit * k ≡ (2 * (x.here * over) + x.unit) * k = grind arith in
     let bottom : 2 * (x.unit * k) ≡ 2 * x.unit * k = grind arith in
@@ -54,7 +54,7 @@ lt-scaled a b k pos = elim (cases_lt a b) [
       )
 ]
 
-reads-scaled : (k over n : ℕ) (x : Placed) → 0 < k → reads_as (scaled k x) over n ≡ reads_as x over n
+reads-scaled : (k over n : ℕ) (x : Scaled) → 0 < k → reads_as (scaled k x) over n ≡ reads_as x over n
 reads-scaled k over n x pos =
     let low : (x.below * k + x.here * k) * over ≡ (x.below + x.here) * over * k = grind arith in
     let middle : 2 * (n * (x.unit * k)) ≡ 2 * (n * x.unit) * k = grind arith in
@@ -66,7 +66,7 @@ reads-scaled k over n x pos =
     ap (λ t. t && nat_lt (2 * (n * (x.unit * k))) ((x.here * k + x.above * k) * over)) a
     ∙ ap (λ t. nat_le ((x.below + x.here) * over) (2 * (n * x.unit)) && t) b
 
-pub shortest-scaled : (k more digits : ℕ) (x : Placed) → 0 < k → shortest (scaled k x) more digits ≡ shortest x more digits
+pub shortest-scaled : (k more digits : ℕ) (x : Scaled) → 0 < k → shortest (scaled k x) more digits ≡ shortest x more digits
 shortest-scaled k zero digits x pos = refl
 shortest-scaled k (suc more) digits x pos =
     let n = nearest-scaled k (10 ^ digits) x pos in
@@ -117,11 +117,11 @@ below-halved h q (suc t) lt =
     let some = positive t in
     ap (value_of h) is ∙ here-halved h q t (omega arith) ∙ ap (λ m. m * 2 ^ q) two ∙ sym (ap (λ b. (if b then 2 * (h + suc t) - 2 else 2 * (h + suc t) - 1) * 2 ^ q) some)
 
-pub placed-halved : (f : Format) (q t shift : ℕ) → t < f.hidden → shift + q ≡ f.one → placed_in f (suc (suc q) * f.hidden + t) ≡ scaled (2 ^ q) (halved f.hidden t shift)
+pub placed-halved : (f : Format) (q t shift : ℕ) → t < f.hidden → shift + q ≡ f.one → scaled_in f (suc (suc q) * f.hidden + t) ≡ scaled (2 ^ q) (halved f.hidden t shift)
 placed-halved f q t shift lt split =
     let one : 2 ^ f.one ≡ 2 ^ shift * 2 ^ q = ap (λ n. 2 ^ n) (sym split) ∙ pow-add 2 shift q in
     rw (below-halved f.hidden q t lt, here-halved f.hidden q t lt, above-halved f.hidden q t lt, one) refl
 
-pub shortest-halved : (f : Format) (q t shift : ℕ) → t < f.hidden → shift + q ≡ f.one → shortest (placed_in f (suc (suc q) * f.hidden + t)) 21 1 ≡ shortest (halved f.hidden t shift) 21 1
+pub shortest-halved : (f : Format) (q t shift : ℕ) → t < f.hidden → shift + q ≡ f.one → shortest (scaled_in f (suc (suc q) * f.hidden + t)) 21 1 ≡ shortest (halved f.hidden t shift) 21 1
 shortest-halved f q t shift lt split =
     ap (λ x. shortest x 21 1) (placed-halved f q t shift lt split) ∙ shortest-scaled (2 ^ q) 21 1 (halved f.hidden t shift) (pow_pos q)

@@ -8,7 +8,7 @@ use Rattle.std.proofs.lemmas.List.{take-append-drop, length-replicate}
 use Rattle.std.proofs.lemmas.Str.{length-encode, len_utf8_bounds}
 use Rattle.plist_value.specs.Plist.{bytes}
 use Rattle.plist_value.specs.Digits.{two_digits}
-use Rattle.plist_print.specs.Units.{is_unseen, is_seen_pair, printed_data, printed_unit, printed_units, printed_text}
+use Rattle.plist_print.specs.Units.{is_invisible, is_visible_pair, printed_data, printed_unit, printed_units, printed_text}
 use Rattle.plist_print.specs.Printed.{indent, enclosed, octet_lines, printed_line}
 use Rattle.plist_print.proofs.DataLines.{data_lines, lines-joined, if-told, if-denied}
 
@@ -29,7 +29,7 @@ unit-long u =
     (if-long (u == 10) _ _ 6 (omega arith)
     (if-long (u == 9) _ _ 6 (omega arith)
     (if-long (u == 13) _ _ 6 (omega arith)
-    (if-long (is_unseen u) _ _ 6 (omega arith) (omega (arith, e)))))))
+    (if-long (is_invisible u) _ _ 6 (omega arith) (omega (arith, e)))))))
 
 units-long : (us : List ℕ) → length (printed_units us) ≤ 6 * length us
 units-long [] = omega arith
@@ -41,7 +41,7 @@ units-long (u ∷ v ∷ us) =
     let rest = units-long (v ∷ us) in
     let left = length-append (encode_utf8 (surrogate_pair_char u v)) (printed_units us) in
     let right = length-append (printed_unit u) (printed_units (v ∷ us)) in
-    if-long (is_seen_pair u v) _ _ _ (omega (arith, pair, others, left)) (omega (arith, one, rest, right))
+    if-long (is_visible_pair u v) _ _ _ (omega (arith, pair, others, left)) (omega (arith, one, rest, right))
 
 pub text-long : (us : List ℕ) → length (printed_text us) ≤ 6 * length us + 2
 text-long us =

@@ -3,7 +3,7 @@ use Rattle.std.proofs.Common.{◌≡◌, ℕ, ◌+◌, List, [], ◌++◌, refl,
 use Rattle.std.specs.Prelude.{codes}
 use Rattle.std.proofs.lemmas.List.{append-nil}
 use Rattle.plist_value.specs.Plist.{Plist, scalar, list, table, Items, no_items, item, Pairs, no_pairs, pair}
-use Rattle.plist_engine.specs.Notation.{text_in, items_in, pairs_in, whole_in}
+use Rattle.plist_write.specs.Notation.{text_in, items_in, pairs_in, document_in}
 use Rattle.plist_print.specs.Units.{printed_text}
 use Rattle.plist_print.specs.Printed.{indent, enclosed, printed, printed_at, printed_items, printed_pairs}
 use Rattle.plist_print.specs.Printing.{pair_head, printed_parts}
@@ -40,5 +40,5 @@ mutual
       let rest = printed_at level v ++ printed_pairs level ps in
       joined (pair_head level key) (text_in printed_parts level v) (printed_at level v) (pairs_in printed_parts level ps) (printed_pairs level ps) (text_is level v) (pairs_are level ps) ∙ append_assoc (indent level) (printed_text key ++ codes " => ") rest ∙ ap (λ xs. indent level ++ xs) (append_assoc (printed_text key) (codes " => ") rest)
 
-pub whole_is : (v : Plist) → whole_in printed_parts v ≡ printed v
+pub whole_is : (v : Plist) → document_in printed_parts v ≡ printed v
 whole_is v = append-nil (text_in printed_parts 0 v) ∙ text_is 0 v

@@ -8,7 +8,7 @@ use Rattle.std.proofs.lemmas.Bool.Decides.{nat_tests}
 use Rattle.std.proofs.lemmas.List.{append-nil}
 use Rattle.std.proofs.lemmas.Str.{digit_value-digit_char, encode_same, encode_ascii}
 use Rattle.plist_value.specs.Plist.{AreUnits, AreOctets}
-use Rattle.plist_print.specs.Units.{is_unseen, is_seen_pair, printed_unit, printed_units}
+use Rattle.plist_print.specs.Units.{is_invisible, is_visible_pair, printed_unit, printed_units}
 use Rattle.plist_value.specs.Digits.{two_digits}
 use Rattle.plist_print.proofs.Fronts.{heads, tails}
 use Rattle.plist_print.proofs.Compared.{equal, unlike}
@@ -38,7 +38,7 @@ shown u =
     if-shown (u == 10) u _ _ (λ e. by_letter u 110 (λ h. omega arith) (equal u 10 e)) (λ n.
     if-shown (u == 9) u _ _ (λ e. by_letter u 116 (λ h. omega arith) (equal u 9 e)) (λ t.
     if-shown (u == 13) u _ _ (λ e. by_letter u 114 (λ h. omega arith) (equal u 13 e)) (λ r.
-    if-shown (is_unseen u) u _ _ (λ e. number u) (λ e. itself u (unlike u 34 q) (unlike u 92 b)))))))
+    if-shown (is_invisible u) u _ _ (λ e. number u) (λ e. itself u (unlike u 34 q) (unlike u 92 b)))))))
 
 two-front : (x y : ℕ) (r s : List ℕ) → x < 256 → y < 256 → two_digits x ++ r ≡ two_digits y ++ s → (x ≡ y) × (r ≡ s)
 two-front x y r s h k e =
@@ -102,7 +102,7 @@ first : (us : List ℕ) → First us
 first [] = none
 first (u ∷ []) = single u [] (sym (append-nil (printed_unit u)))
 first (u ∷ v ∷ us) =
-    elim (cases_Bool (is_seen_pair u v)) [
+    elim (cases_Bool (is_visible_pair u v)) [
       | inl is ↦ (
           let both = and_parts (is_high_surrogate u) _ is in
           double u v us both.0 (and_parts (is_low_surrogate v) _ both.1).0 (rw is refl)

@@ -46,25 +46,25 @@ value_of hidden bits = if nat_lt bits hidden then bits
 
 -- A real with its neighbours: the next below it, itself, the next above it, and 1, as multiples of
 -- the same number.
-pub record Placed : Type 0 where
+pub record Scaled : Type 0 where
   pub below : ℕ
   pub here : ℕ
   pub above : ℕ
   pub unit : ℕ
 
 -- the numerator over `over` that is nearest to the real; the greater one if there are two
-abbrev pub nearest : Placed → ℕ → ℕ
+abbrev pub nearest : Scaled → ℕ → ℕ
 nearest x over = (2 * (x.here * over) + x.unit) / (2 * x.unit)
 
 -- n / over reads as the real: it is between the midpoints to the neighbours, the lower one included
-abbrev pub reads_as : Placed → ℕ → ℕ → Bool
+abbrev pub reads_as : Scaled → ℕ → ℕ → Bool
 reads_as x over n =
     nat_le ((x.below + x.here) * over) (2 * (n * x.unit))
     && nat_lt (2 * (n * x.unit)) ((x.here + x.above) * over)
 
 -- The decimal with the fewest digits after the decimal point that reads as the real, as its
 -- numerator and the number of these digits. The numbers of digits are tried from the given one on.
-abbrev pub shortest : Placed → ℕ → ℕ → Option (ℕ × ℕ)
+abbrev pub shortest : Scaled → ℕ → ℕ → Option (ℕ × ℕ)
 shortest x zero digits = None
 shortest x (suc more) digits =
     if reads_as x (10 ^ digits) (nearest x (10 ^ digits))
@@ -72,8 +72,8 @@ shortest x (suc more) digits =
     else shortest x more (suc digits)
 
 -- the real with these bits; the next below 0 is 0
-abbrev pub placed_in : Format → ℕ → Placed
-placed_in f bits =
+abbrev pub scaled_in : Format → ℕ → Scaled
+scaled_in f bits =
     record {
       below = value_of f.hidden (bits - 1);
       here = value_of f.hidden bits;
@@ -83,7 +83,7 @@ placed_in f bits =
 
 -- with 1 to 21 digits after the decimal point
 unfoldable pub decimal_of : Format → ℕ → Option (ℕ × ℕ)
-decimal_of f bits = if nat_lt (bits / f.hidden) f.to then shortest (placed_in f bits) 21 1 else None
+decimal_of f bits = if nat_lt (bits / f.hidden) f.to then shortest (scaled_in f bits) 21 1 else None
 
 -- the last k decimal digits of n
 abbrev pub last_digits : ℕ → ℕ → List ℕ

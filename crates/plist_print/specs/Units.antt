@@ -27,8 +27,8 @@ is_blank _ = false
 
 -- A character that is invisible, or changes how others are displayed: a lone surrogate, one of the
 -- categories above other than U+0020, or one with the property Default_Ignorable_Code_Point.
-unfoldable pub is_unseen : ℕ → Bool
-is_unseen c =
+unfoldable pub is_invisible : ℕ → Bool
+is_invisible c =
     is_in_range 0xd800 0xdfff c
     || (not (c == 32) && (is_blank (general_category c) || is_default_ignorable_code_point c))
 
@@ -41,21 +41,22 @@ printed_unit unit =
     else (if unit == 10 then codes "\\n"
     else (if unit == 9 then codes "\\t"
     else (if unit == 13 then codes "\\r"
-    else (if is_unseen unit then codes "\\U" ++ (two_digits (unit / 256) ++ two_digits (unit % 256))
+    else (if is_invisible unit then codes "\\U" ++ (two_digits (unit / 256)
+    ++ two_digits (unit % 256))
     else encode_utf8 unit)))))
 
 -- two units that are a surrogate pair of a visible character
-abbrev pub is_seen_pair : ℕ → ℕ → Bool
-is_seen_pair unit next =
+abbrev pub is_visible_pair : ℕ → ℕ → Bool
+is_visible_pair unit next =
     is_high_surrogate unit
-    && (is_low_surrogate next && not (is_unseen (surrogate_pair_char unit next)))
+    && (is_low_surrogate next && not (is_invisible (surrogate_pair_char unit next)))
 
 -- each such pair as its character in UTF-8, and each other unit by itself
 abbrev pub printed_units : List ℕ → List ℕ
 printed_units [] = []
 printed_units (unit ∷ []) = printed_unit unit
 printed_units (unit ∷ next ∷ units) =
-    if is_seen_pair unit next
+    if is_visible_pair unit next
     then encode_utf8 (surrogate_pair_char unit next) ++ printed_units units
     else printed_unit unit ++ printed_units (next ∷ units)
 

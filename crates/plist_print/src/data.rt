@@ -2,13 +2,13 @@
 ghost use Rattle.std.specs.Prelude.{◌≡◌, ◌<◌, ◌++◌, codes, flat_map, length, IfOk, OnOk};
 ghost use Rattle.plist_value.specs.Plist.{bytes};
 ghost use Rattle.plist_value.specs.Digits.{two_digits};
-ghost use Rattle.plist_engine.specs.Output.{Goes, Puts, state_of};
+ghost use Rattle.plist_write.specs.BufferedSink.{Emits, PutsPiece, sink_state};
 ghost use Rattle.plist_print.specs.Units.{printed_data};
 ghost use Rattle.plist_print.specs.Printed.{indent, octet_lines, printed_line};
 
 use crate::layout::{end_lines, put_indent};
-use plist_engine::{Output, Sink, WriteFault};
 use plist_value::put_digits;
+use plist_write::{BufferedSink, Sink, WriteFault};
 use std::alloc::AllocError;
 
 // The number of bytes of data on a full line.
@@ -18,17 +18,17 @@ const LINE: usize = 32;
 pub(crate) fn print_data<W: Sink>(
     octets: &[u8],
     level: u64,
-    out: &mut Output<W>,
+    out: &mut BufferedSink<W>,
 ) -> Result<(), WriteFault>
-    ensures goes { Goes (printed_line level (bytes octets.now))
-        (state_of W.Sink out.old) (state_of W.Sink out.new) result }
+    ensures emits { Emits (printed_line level (bytes octets.now))
+        (sink_state W.Sink out.old) (sink_state W.Sink out.new) result }
 {
     if octets.len() > LINE {
         return print_long_data(octets, level, out);
     }
     let put = put_short_data(out.waiting, octets);
     out.grown(put)?;
-    out.settle()
+    out.flush_if_full()
 }
 
 // Appends the line of data in angle brackets.
@@ -45,11 +45,11 @@ fn put_short_data(out: &mut Vec<u8>, octets: &[u8]) -> Result<(), AllocError>
 fn print_long_data<W: Sink>(
     octets: &[u8],
     level: u64,
-    out: &mut Output<W>,
+    out: &mut BufferedSink<W>,
 ) -> Result<(), WriteFault>
     requires { 32 < length octets.now }
-    ensures goes { Goes (printed_line level (bytes octets.now))
-        (state_of W.Sink out.old) (state_of W.Sink out.new) result }
+    ensures emits { Emits (printed_line level (bytes octets.now))
+        (sink_state W.Sink out.old) (sink_state W.Sink out.new) result }
 {
     out.put(b"<\n")?;
     print_lines(octets, level.min(32) + 1, out)?;
@@ -57,15 +57,19 @@ fn print_long_data<W: Sink>(
 }
 
 // Writes the lines between the brackets of data.
-fn print_lines<W: Sink>(octets: &[u8], level: u64, out: &mut Output<W>) -> Result<(), WriteFault>
-    ensures goes { Goes (octet_lines (indent level) octets.now)
-        (state_of W.Sink out.old) (state_of W.Sink out.new) result }
+fn print_lines<W: Sink>(
+    octets: &[u8],
+    level: u64,
+    out: &mut BufferedSink<W>,
+) -> Result<(), WriteFault>
+    ensures emits { Emits (octet_lines (indent level) octets.now)
+        (sink_state W.Sink out.old) (sink_state W.Sink out.new) result }
 {
     let mut left = octets;
     while !left.is_empty() {
         let put = put_front(out.waiting, level, left);
         let behind = out.grown(put)?;
-        out.settle()?;
+        out.flush_if_full()?;
         left = behind;
     }
     Ok(())
@@ -74,7 +78,7 @@ fn print_lines<W: Sink>(octets: &[u8], level: u64, out: &mut Output<W>) -> Resul
 // Appends the line of the first bytes, and returns the bytes after them.
 fn put_front<'a>(out: &mut Vec<u8>, level: u64, octets: &'a [u8]) -> Result<&'a [u8], AllocError>
     requires { 0 < length octets.now }
-    ensures octets { IfOk result (λ left. Puts out.old.items out.new.items
+    ensures octets { IfOk result (λ left. PutsPiece out.old.items out.new.items
         (octet_lines (indent level) octets.entry.now) (octet_lines (indent level) left.now)) }
     ensures shorter { IfOk result (λ left. length left.now < length octets.entry.now) }
 {

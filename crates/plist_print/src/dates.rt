@@ -9,7 +9,7 @@ ghost use Rattle.plist_print.specs.Dates.{second_of, in_brackets, printed_date};
 ghost use Rattle.plist_print.specs.Shown.{decimal_in};
 
 use crate::decimals::{ones, tens};
-use crate::kept::{DayOfMonth, Decimal};
+use crate::numbers::{DayOfMonth, Decimal};
 use crate::reals::{decimal_of_double, put_double};
 use byteorder::{BigEndian, ByteOrder};
 use std::alloc::AllocError;

@@ -2,7 +2,7 @@
 ghost use Rattle.std.specs.Prelude.{◌≡◌, ◌+◌, ◌*◌, ◌/◌, ◌%◌, ◌^◌, ◌<◌, ◌≤◌, ◌++◌, OnOk};
 ghost use Rattle.plist_print.specs.Reals.{last_digits, printed_decimal};
 
-use crate::kept::Decimal;
+use crate::numbers::Decimal;
 use itoa::{Buffer, write_digits};
 use std::alloc::AllocError;
 

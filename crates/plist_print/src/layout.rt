@@ -1,14 +1,14 @@
 //! Prints what precedes a value on its line, and the last line of a container.
 ghost use Rattle.std.specs.Prelude.{◌≡◌, ◌∷◌, ◌++◌, [], codes, OnOk};
 ghost use Rattle.plist_value.specs.Texts.{units_of};
-ghost use Rattle.plist_engine.specs.Output.{Goes, state_of};
+ghost use Rattle.plist_write.specs.BufferedSink.{Emits, sink_state};
 ghost use Rattle.plist_print.specs.Units.{printed_text};
 ghost use Rattle.plist_print.specs.Printed.{indent};
 ghost use Rattle.plist_print.specs.Printing.{pair_head};
 
 use crate::lines::print_text;
-use plist_engine::{Output, Sink, WriteFault};
 use plist_value::TextRef;
+use plist_write::{BufferedSink, Sink, WriteFault};
 use std::alloc::AllocError;
 
 // Two spaces for each of 32 levels.
@@ -18,10 +18,10 @@ static BLANKS: [u8; 64] = [b' '; 64];
 pub(crate) fn begin_pair<W: Sink>(
     key: &TextRef,
     level: u64,
-    out: &mut Output<W>,
+    out: &mut BufferedSink<W>,
 ) -> Result<(), WriteFault>
-    ensures goes { Goes (pair_head level (units_of key.now))
-        (state_of W.Sink out.old) (state_of W.Sink out.new) result }
+    ensures emits { Emits (pair_head level (units_of key.now))
+        (sink_state W.Sink out.old) (sink_state W.Sink out.new) result }
 {
     begin_line(level, out)?;
     print_key(key, out)
@@ -31,14 +31,14 @@ pub(crate) fn begin_pair<W: Sink>(
 pub(crate) fn end_lines<W: Sink>(
     level: u64,
     close: u8,
-    out: &mut Output<W>,
+    out: &mut BufferedSink<W>,
 ) -> Result<(), WriteFault>
-    ensures goes { Goes (indent level ++ (close ∷ 10 ∷ []))
-        (state_of W.Sink out.old) (state_of W.Sink out.new) result }
+    ensures emits { Emits (indent level ++ (close ∷ 10 ∷ []))
+        (sink_state W.Sink out.old) (sink_state W.Sink out.new) result }
 {
     let put = put_end(out.waiting, level, close);
     out.grown(put)?;
-    out.settle()
+    out.flush_if_full()
 }
 
 fn put_end(out: &mut Vec<u8>, level: u64, close: u8) -> Result<(), AllocError>
@@ -50,22 +50,22 @@ fn put_end(out: &mut Vec<u8>, level: u64, close: u8) -> Result<(), AllocError>
 }
 
 /// Writes the spaces at the start of a line.
-pub(crate) fn begin_line<W: Sink>(level: u64, out: &mut Output<W>) -> Result<(), WriteFault>
-    ensures goes { Goes (indent level)
-        (state_of W.Sink out.old) (state_of W.Sink out.new) result }
+pub(crate) fn begin_line<W: Sink>(level: u64, out: &mut BufferedSink<W>) -> Result<(), WriteFault>
+    ensures emits { Emits (indent level)
+        (sink_state W.Sink out.old) (sink_state W.Sink out.new) result }
 {
     if level == 0 {
         return Ok(());
     }
     let put = put_indent(out.waiting, level);
     out.grown(put)?;
-    out.settle()
+    out.flush_if_full()
 }
 
 // Writes a key and the arrow after it.
-fn print_key<W: Sink>(key: &TextRef, out: &mut Output<W>) -> Result<(), WriteFault>
-    ensures goes { Goes (printed_text (units_of key.now) ++ codes " => ")
-        (state_of W.Sink out.old) (state_of W.Sink out.new) result }
+fn print_key<W: Sink>(key: &TextRef, out: &mut BufferedSink<W>) -> Result<(), WriteFault>
+    ensures emits { Emits (printed_text (units_of key.now) ++ codes " => ")
+        (sink_state W.Sink out.old) (sink_state W.Sink out.new) result }
 {
     print_text(key, out)?;
     out.put(b" => ")

@@ -6,13 +6,13 @@
 mod data;
 mod dates;
 mod decimals;
-mod kept;
+mod invisible;
 pub mod laws;
 mod layout;
 pub mod lines;
+mod numbers;
 pub mod printing;
 mod reals;
 mod strings;
-mod unseen;
 
 pub use printing::print_of;

@@ -2,7 +2,7 @@
 ghost use Rattle.std.specs.Prelude.{◌≡◌, ◌++◌, codes, true, OnOk};
 ghost use Rattle.plist_value.specs.Scalars.{content_of};
 ghost use Rattle.plist_value.specs.Texts.{units_of};
-ghost use Rattle.plist_engine.specs.Output.{Goes, state_of};
+ghost use Rattle.plist_write.specs.BufferedSink.{Emits, sink_state};
 ghost use Rattle.plist_print.specs.Units.{printed_text, printed_units};
 ghost use Rattle.plist_print.specs.Printed.{printed_line, printed_scalar};
 ghost use Rattle.plist_print.specs.Shown.{is_short};
@@ -12,8 +12,8 @@ use crate::dates::put_date;
 use crate::reals::{put_double, put_single};
 use crate::strings::put_some;
 use itoa::Buffer;
-use plist_engine::{Output, Sink, WriteFault};
 use plist_value::{ScalarRef, TextRef};
+use plist_write::{BufferedSink, Sink, WriteFault};
 use std::alloc::AllocError;
 
 /// Writes a scalar up to the end of its last line. `level` is the level of the line that it begins
@@ -26,10 +26,10 @@ use std::alloc::AllocError;
 pub fn print_scalar<W: Sink>(
     scalar: &ScalarRef,
     level: u64,
-    out: &mut Output<W>,
+    out: &mut BufferedSink<W>,
 ) -> Result<(), WriteFault>
-    ensures goes { Goes (printed_line level (content_of scalar.now))
-        (state_of W.Sink out.old) (state_of W.Sink out.new) result }
+    ensures emits { Emits (printed_line level (content_of scalar.now))
+        (sink_state W.Sink out.old) (sink_state W.Sink out.new) result }
 {
     match scalar {
         ScalarRef::Text(text) => print_text_line(text, out),
@@ -39,10 +39,10 @@ pub fn print_scalar<W: Sink>(
 }
 
 // Writes the line of a scalar that is neither a string nor data.
-fn print_short<W: Sink>(scalar: &ScalarRef, out: &mut Output<W>) -> Result<(), WriteFault>
+fn print_short<W: Sink>(scalar: &ScalarRef, out: &mut BufferedSink<W>) -> Result<(), WriteFault>
     requires short { is_short (content_of scalar.now) ≡ true }
-    ensures goes { Goes (printed_scalar (content_of scalar.now) ++ codes "\n")
-        (state_of W.Sink out.old) (state_of W.Sink out.new) result }
+    ensures emits { Emits (printed_scalar (content_of scalar.now) ++ codes "\n")
+        (sink_state W.Sink out.old) (sink_state W.Sink out.new) result }
 {
     let put = put_short(out.waiting, scalar);
     out.grown(put)?;
@@ -76,9 +76,9 @@ fn put_short(out: &mut Vec<u8>, scalar: &ScalarRef) -> Result<(), AllocError>
 }
 
 // Writes the line of a string.
-fn print_text_line<W: Sink>(text: &TextRef, out: &mut Output<W>) -> Result<(), WriteFault>
-    ensures goes { Goes (printed_text (units_of text.now) ++ codes "\n")
-        (state_of W.Sink out.old) (state_of W.Sink out.new) result }
+fn print_text_line<W: Sink>(text: &TextRef, out: &mut BufferedSink<W>) -> Result<(), WriteFault>
+    ensures emits { Emits (printed_text (units_of text.now) ++ codes "\n")
+        (sink_state W.Sink out.old) (sink_state W.Sink out.new) result }
 {
     print_text(text, out)?;
     out.put(b"\n")
@@ -89,25 +89,25 @@ fn print_text_line<W: Sink>(text: &TextRef, out: &mut Output<W>) -> Result<(), W
 /// # Errors
 ///
 /// Fails like [`print_scalar`].
-pub fn print_text<W: Sink>(text: &TextRef, out: &mut Output<W>) -> Result<(), WriteFault>
-    ensures goes { Goes (printed_text (units_of text.now))
-        (state_of W.Sink out.old) (state_of W.Sink out.new) result }
+pub fn print_text<W: Sink>(text: &TextRef, out: &mut BufferedSink<W>) -> Result<(), WriteFault>
+    ensures emits { Emits (printed_text (units_of text.now))
+        (sink_state W.Sink out.old) (sink_state W.Sink out.new) result }
 {
     out.put(b"\"")?;
     print_units(text, out)
 }
 
 // Writes the units, and the quote after them.
-fn print_units<W: Sink>(text: &TextRef, out: &mut Output<W>) -> Result<(), WriteFault>
-    ensures goes { Goes (printed_units (units_of text.now) ++ codes "\"")
-        (state_of W.Sink out.old) (state_of W.Sink out.new) result }
+fn print_units<W: Sink>(text: &TextRef, out: &mut BufferedSink<W>) -> Result<(), WriteFault>
+    ensures emits { Emits (printed_units (units_of text.now) ++ codes "\"")
+        (sink_state W.Sink out.old) (sink_state W.Sink out.new) result }
 {
-    let mut place = 0;
-    while place < text.len() {
-        let put = put_some(out.waiting, text, place);
+    let mut index = 0;
+    while index < text.len() {
+        let put = put_some(out.waiting, text, index);
         let next = out.grown(put)?;
-        out.settle()?;
-        place = next;
+        out.flush_if_full()?;
+        index = next;
     }
     out.put(b"\"")
 }

@@ -4,15 +4,15 @@ ghost use Rattle.plist_value.specs.Plist.{Plist};
 ghost use Rattle.plist_object.specs.KeyOrder.{IsReady};
 ghost use Rattle.plist_object.specs.Spelled.{IsBinary};
 ghost use Rattle.plist_object.specs.Views.{octets_of};
-ghost use Rattle.plist_engine.specs.Sending.{IsWritten};
+ghost use Rattle.plist_write.specs.Sending.{IsWritten};
 ghost use Rattle.plist_print.specs.Printed.{printed};
 ghost use Rattle.plist_print.specs.Printing.{printed_parts};
 
 use crate::layout::{begin_line, begin_pair};
 use crate::lines::print_scalar;
-use plist_engine::{Mark, Notation, Output, Sink, WriteFault, write_in_notation};
 use plist_object::JudgedFile;
 use plist_value::{ScalarRef, TextRef};
+use plist_write::{BufferedSink, Mark, Notation, Sink, WriteFault, write_in_notation};
 use std::alloc::Global;
 
 /// Writes the printed text of the file's value, object by object, and returns its length in bytes.
@@ -45,19 +45,23 @@ impl<W: Sink> Notation<W> for Printed {
 
     ghost begun = { Prim.search rules };
 
-    fn write_scalar(scalar: &ScalarRef, level: u64, out: &mut Output<W>) -> Result<(), WriteFault> {
+    fn write_scalar(
+        scalar: &ScalarRef,
+        level: u64,
+        out: &mut BufferedSink<W>,
+    ) -> Result<(), WriteFault> {
         print_scalar(scalar, level, out)
     }
 
-    fn begin_line(level: u64, out: &mut Output<W>) -> Result<(), WriteFault> {
+    fn begin_line(level: u64, out: &mut BufferedSink<W>) -> Result<(), WriteFault> {
         begin_line(level, out)
     }
 
-    fn begin_pair(key: &TextRef, level: u64, out: &mut Output<W>) -> Result<(), WriteFault> {
+    fn begin_pair(key: &TextRef, level: u64, out: &mut BufferedSink<W>) -> Result<(), WriteFault> {
         begin_pair(key, level, out)
     }
 
-    fn write_mark(mark: Mark, out: &mut Output<W>) -> Result<(), WriteFault> {
+    fn write_mark(mark: Mark, out: &mut BufferedSink<W>) -> Result<(), WriteFault> {
         match mark {
             Mark::EmptyList => out.put(b"[]\n"),
             Mark::ListStart => out.put(b"[\n"),

@@ -6,10 +6,10 @@ ghost use Rattle.std.specs.Option.{option_map};
 ghost use Rattle.plist_print.specs.Units.{printed_data};
 ghost use Rattle.plist_print.specs.Reals.{single, double, nearest, reads_as, shortest, decimal_of};
 ghost use Rattle.plist_print.specs.Reals.{printed_finite, printed_real};
-ghost use Rattle.plist_print.specs.Shown.{IsUnread, decimal_in, halved, placed_of};
+ghost use Rattle.plist_print.specs.Shown.{IsUnread, decimal_in, halved, scaled_of};
 
 use crate::decimals::{power_of_ten, put_decimal};
-use crate::kept::{Decimal, Neighbours};
+use crate::numbers::{Decimal, Neighbours};
 use byteorder::{BigEndian, ByteOrder};
 use plist_value::put_digits;
 use std::alloc::AllocError;
@@ -17,7 +17,7 @@ use std::alloc::AllocError;
 // Returns the decimal with the fewest digits after the decimal point that reads as the real, with
 // at most 21.
 fn shortest(real: &Neighbours) -> Option<Decimal>
-    ensures { option_map decimal_in result ≡ shortest (placed_of real.now) 21 1 }
+    ensures { option_map decimal_in result ≡ shortest (scaled_of real.now) 21 1 }
 {
     for digits in first_digits(real)..22 {
         match numerator_at(real, power_of_ten(digits)) {
@@ -33,8 +33,8 @@ fn shortest(real: &Neighbours) -> Option<Decimal>
 fn first_digits(real: &Neighbours) -> u32
     ensures some { 1 ≤ result }
     ensures few { result ≤ 21 }
-    ensures same { shortest (placed_of real.now) (22 - result) result
-        ≡ shortest (placed_of real.now) 21 1 }
+    ensures same { shortest (scaled_of real.now) (22 - result) result
+        ≡ shortest (scaled_of real.now) 21 1 }
 {
     if real.here.trailing_zeros() >= real.shift {
         return 1;
@@ -63,8 +63,8 @@ fn first_within(real: &Neighbours, enough: u32) -> u32
     requires few { enough ≤ 21 }
     ensures some { 1 ≤ result }
     ensures few { result ≤ 21 }
-    ensures same { shortest (placed_of real.now) (22 - result) result
-        ≡ shortest (placed_of real.now) 21 1 }
+    ensures same { shortest (scaled_of real.now) (22 - result) result
+        ≡ shortest (scaled_of real.now) 21 1 }
 {
     let mut least = 1;
     let mut most = enough;
@@ -83,7 +83,7 @@ fn first_within(real: &Neighbours, enough: u32) -> u32
 // none over a smaller power of ten does either.
 fn can_read(real: &Neighbours, over: u128) -> bool
     requires { over ≤ 10 ^ 21 }
-    ensures { IsFalse result → IsUnread (placed_of real.now) over }
+    ensures { IsFalse result → IsUnread (scaled_of real.now) over }
 {
     let last = product(real.here + real.above, over).saturating_sub(1) >> (real.shift + 1);
     product(real.below + real.here, over) <= last * (2 * real.unit)
@@ -92,8 +92,8 @@ fn can_read(real: &Neighbours, over: u128) -> bool
 // Returns the numerator nearest to the real, if it reads as the real.
 fn numerator_at(real: &Neighbours, over: u128) -> Option<u128>
     requires { over ≤ 10 ^ 21 }
-    ensures { result ≡ (if reads_as (placed_of real.now) over (nearest (placed_of real.now) over)
-        then Some (nearest (placed_of real.now) over) else None) }
+    ensures { result ≡ (if reads_as (scaled_of real.now) over (nearest (scaled_of real.now) over)
+        then Some (nearest (scaled_of real.now) over) else None) }
 {
     let total = 2 * product(real.here, over) + real.unit;
     let numerator = total >> (real.shift + 1);
@@ -129,7 +129,7 @@ fn placed(hidden: u64, fraction: u64, shift: u32) -> Neighbours
     requires least { 0 < hidden }
     requires fraction { fraction < hidden }
     requires shift { shift ≤ 126 }
-    ensures { placed_of result ≡ halved hidden fraction shift }
+    ensures { scaled_of result ≡ halved hidden fraction shift }
 {
     let here = 2 * (hidden + fraction);
     Neighbours {

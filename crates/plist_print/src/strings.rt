@@ -5,34 +5,34 @@ ghost use Rattle.std.specs.Prelude.{false, IsTrue, IfOk, OnOk, length, take, dro
 ghost use Rattle.std.specs.Char.{encode_utf8};
 ghost use Rattle.plist_value.specs.Texts.{units_of};
 ghost use Rattle.plist_value.specs.Digits.{two_digits};
-ghost use Rattle.plist_engine.specs.Output.{Puts};
+ghost use Rattle.plist_write.specs.BufferedSink.{PutsPiece};
 ghost use Rattle.plist_print.specs.Units.{printed_text, printed_unit, printed_units};
 
-use crate::unseen::{seen_pair, seen_unit};
+use crate::invisible::{visible_pair, visible_unit};
 use plist_value::{TextRef, digits_of};
 use std::alloc::AllocError;
 
-/// Appends some of the units from position `place` on to `out`, and returns the position after
+/// Appends some of the units from position `index` on to `out`, and returns the position after
 /// them. This is a sequence of characters that need no escape if the string is stored as ASCII.
 /// Otherwise, it is one unit, or the two units of a surrogate pair.
-pub(crate) fn put_some(out: &mut Vec<u8>, text: &TextRef, place: usize) -> Result<usize, AllocError>
-    requires { place < length (units_of text.now) }
-    ensures octets { IfOk result (λ next. Puts out.old.items out.new.items
-        (printed_units (drop place (units_of text.now)))
+pub(crate) fn put_some(out: &mut Vec<u8>, text: &TextRef, index: usize) -> Result<usize, AllocError>
+    requires { index < length (units_of text.now) }
+    ensures octets { IfOk result (λ next. PutsPiece out.old.items out.new.items
+        (printed_units (drop index (units_of text.now)))
         (printed_units (drop next (units_of text.now)))) }
-    ensures further { IfOk result (λ next. place < next) }
+    ensures further { IfOk result (λ next. index < next) }
     ensures within { IfOk result (λ next. next ≤ length (units_of text.now)) }
 {
     let Some(octets) = text.octets() else {
-        return put_unit(out, text, place);
+        return put_unit(out, text, index);
     };
-    let behind = &octets[place..];
+    let behind = &octets[index..];
     let run = plain_length(behind);
     if run == 0 {
-        return put_unit(out, text, place);
+        return put_unit(out, text, index);
     }
     out.extend_from_slice(&behind[..run])?;
-    Ok(place + run)
+    Ok(index + run)
 }
 
 // The maximum number of bytes that are appended at once.
@@ -66,27 +66,27 @@ fn is_plain(octet: u8) -> bool
     true
 }
 
-// Appends the unit at position `place` to `out`, together with the next if both are a visible
+// Appends the unit at position `index` to `out`, together with the next if both are a visible
 // surrogate pair. Returns the position after them.
-fn put_unit(out: &mut Vec<u8>, text: &TextRef, place: usize) -> Result<usize, AllocError>
-    requires { place < length (units_of text.now) }
-    ensures octets { IfOk result (λ next. Puts out.old.items out.new.items
-        (printed_units (drop place (units_of text.now)))
+fn put_unit(out: &mut Vec<u8>, text: &TextRef, index: usize) -> Result<usize, AllocError>
+    requires { index < length (units_of text.now) }
+    ensures octets { IfOk result (λ next. PutsPiece out.old.items out.new.items
+        (printed_units (drop index (units_of text.now)))
         (printed_units (drop next (units_of text.now)))) }
-    ensures further { IfOk result (λ next. place < next) }
+    ensures further { IfOk result (λ next. index < next) }
     ensures within { IfOk result (λ next. next ≤ length (units_of text.now)) }
 {
     let length = text.len();
-    let unit = text.unit(place);
-    if place + 1 < length {
-        let next = text.unit(place + 1);
-        if let Some(character) = seen_pair(unit, next) {
+    let unit = text.unit(index);
+    if index + 1 < length {
+        let next = text.unit(index + 1);
+        if let Some(character) = visible_pair(unit, next) {
             put_character(out, character)?;
-            return Ok(place + 2);
+            return Ok(index + 2);
         }
     }
     put_single(out, unit)?;
-    Ok(place + 1)
+    Ok(index + 1)
 }
 
 // Appends a unit that is not part of a visible pair.
@@ -115,7 +115,7 @@ fn put_other(out: &mut Vec<u8>, unit: u16) -> Result<(), AllocError>
     requires back { (unit == 13) ≡ false }
     ensures { OnOk result (out.new.items ≡ out.old.items ++ printed_unit unit) }
 {
-    match seen_unit(unit) {
+    match visible_unit(unit) {
         Some(character) => put_character(out, character),
         None => put_number(out, unit),
     }

@@ -33,13 +33,13 @@ const ROWS: [(Parts, usize, Option<usize>); 11] = [
 
 // Returns the index of the first row with another result.
 fn first_wrong(alloc: Global) -> Result<Option<usize>, AllocError> {
-    for (place, (parts, times, octet)) in ROWS.iter().enumerate() {
+    for (index, (parts, times, octet)) in ROWS.iter().enumerate() {
         let text = nested(alloc, parts, *times)?;
         let fault = read_text(alloc, text.as_slice()).err();
         let canonical = canonicalise(alloc, text.as_slice()).err();
         let want = octet.map(|octet| TextFault::TooDeep { octet });
         if fault != want || canonical != want.map(Fault::Text) {
-            return Ok(Some(place));
+            return Ok(Some(index));
         }
     }
     Ok(None)

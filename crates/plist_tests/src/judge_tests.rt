@@ -1,6 +1,6 @@
 //! The validator and the reader, beyond the rows: keys of long dictionaries, overlapping
 //! dictionaries, and refused memory.
-use crate::engine::canonical_file;
+use crate::canonical_files::canonical_file;
 use crate::worked_files::UNSORTED;
 use plist_binary::{BinaryFault, judge, read};
 use plist_canon::{CheckFault, Verdict, check};
@@ -16,10 +16,10 @@ fn key(alloc: Global, sharing: u8, units: u8, number: u8) -> Result<Vec<u8>, All
     let ascii = step < 20;
     let count = units.saturating_add(1 + number % 2);
     let mut key = Vec::from_slice(alloc, &[if ascii { 0x5f } else { 0x6f }, 0x10, count])?;
-    for place in 0..count {
-        let unit = if place >= units {
+    for index in 0..count {
+        let unit = if index >= units {
             (if ascii { 88 } else { 225 }) + u16::from(step)
-        } else if place == 0 {
+        } else if index == 0 {
             0x61 + u16::from(number / sharing.max(1))
         } else {
             0x61
@@ -135,9 +135,9 @@ fn is_answered(alloc: Global, octets: &[u8], code: u8) -> bool {
 
 // Returns the index of the first file with another result.
 fn wrong_file(alloc: Global) -> Option<usize> {
-    for (place, (octets, code)) in FILES.iter().enumerate() {
+    for (index, (octets, code)) in FILES.iter().enumerate() {
         if !is_answered(alloc, octets, *code) {
-            return Some(place);
+            return Some(index);
         }
     }
     None

@@ -4,11 +4,11 @@
 #![tactic(auto)]
 
 #[cfg(test)]
+mod canonical_files;
+#[cfg(test)]
 mod depth;
 #[cfg(test)]
 mod drafts;
-#[cfg(test)]
-mod engine;
 #[cfg(test)]
 mod faults;
 #[cfg(test)]

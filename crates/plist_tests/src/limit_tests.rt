@@ -1,6 +1,6 @@
 //! Generated files: the limits on depth, nodes and payload, as the validator, the reader and the
 //! check apply them, and the widths of references and offsets.
-use crate::engine::canonical_file;
+use crate::canonical_files::canonical_file;
 use crate::files::{numbers, zeros};
 use plist_binary::{BinaryFault, judge, read};
 use plist_canon::{Verdict, canonical, check};
@@ -241,13 +241,13 @@ fn is_answered(alloc: Global, octets: &[u8], answer: Answer) -> Result<bool, Fai
 
 // Returns the index of the first row with another result.
 fn wrong_row(alloc: Global) -> Result<Option<usize>, Fail> {
-    for (place, (shape, size, answer, broken)) in ROWS.iter().enumerate() {
+    for (index, (shape, size, answer, broken)) in ROWS.iter().enumerate() {
         let octets = shape.file(alloc)?;
         let octets = octets.as_slice();
         let checked = check(alloc, octets);
         let is_right = octets.len() == *size && checked == Ok(verdict(*broken));
         if !is_right || !is_answered(alloc, octets, *answer)? {
-            return Ok(Some(place));
+            return Ok(Some(index));
         }
     }
     Ok(None)
@@ -273,10 +273,10 @@ const SOURCES: [(Shape, Shape); 8] = [
 
 // Returns the index of the first source with another canonical file.
 fn wrong_source(alloc: Global) -> Result<Option<usize>, Fail> {
-    for (place, (source, own)) in SOURCES.iter().enumerate() {
+    for (index, (source, own)) in SOURCES.iter().enumerate() {
         let canonical = canonicalise(alloc, source.file(alloc)?.as_slice())?;
         if canonical.as_slice() != own.file(alloc)?.as_slice() {
-            return Ok(Some(place));
+            return Ok(Some(index));
         }
     }
     Ok(None)

@@ -35,13 +35,13 @@ fn spelled_of(octets: &[u8], object: u64) -> Option<&[u8]> {
 #[test]
 fn scalars_as_they_stand(rt: HostRuntime) -> Result<(), Fail> {
     let file = file_of(rt.alloc(), &OBJECTS, 1)?;
-    for (place, object) in OBJECTS.iter().enumerate() {
-        let known = if matches!(place, 0 | 9 | 10) {
+    for (index, object) in OBJECTS.iter().enumerate() {
+        let known = if matches!(index, 0 | 9 | 10) {
             None
         } else {
             Some(*object)
         };
-        assert_eq!(rt; spelled_of(file.as_slice(), place as u64), known, "{place}");
+        assert_eq!(rt; spelled_of(file.as_slice(), index as u64), known, "{index}");
     }
     Ok(())
 }

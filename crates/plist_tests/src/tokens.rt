@@ -28,8 +28,8 @@ fn count_of(alloc: Global, octets: &[u8]) -> Result<usize, LexFault> {
 #[test]
 fn a_step_at_a_time(rt: HostRuntime) -> Result<(), Fail> {
     assert_eq!(rt; count_of(rt.alloc(), TABLE)?, 6);
-    assert_eq!(rt; open(TABLE)?.place(), 0);
-    assert_eq!(rt; open(b"\xff\xfe")?.place(), 2);
+    assert_eq!(rt; open(TABLE)?.offset(), 0);
+    assert_eq!(rt; open(b"\xff\xfe")?.offset(), 2);
     Ok(())
 }
 
@@ -52,8 +52,8 @@ const MARKS: [(&[u8], char, Option<(usize, usize)>); 5] = [
 
 #[test]
 fn a_mark_after_whitespace_alone(rt: HostRuntime) -> Result<(), Fail> {
-    for (octets, mark, place) in MARKS {
-        assert_eq!(rt; mark_of(octets, mark)?, place);
+    for (octets, mark, offset) in MARKS {
+        assert_eq!(rt; mark_of(octets, mark)?, offset);
     }
     Ok(())
 }
@@ -61,7 +61,7 @@ fn a_mark_after_whitespace_alone(rt: HostRuntime) -> Result<(), Fail> {
 // Returns the units of the first string, if it is read as bytes, and the offset after it.
 fn plain_of(octets: &[u8]) -> Result<Option<(&[u8], usize)>, LexFault> {
     match next_plain(open(octets)?) {
-        Some((token, behind)) => Ok(token.text.octets().map(|units| (units, behind.place()))),
+        Some((token, behind)) => Ok(token.text.octets().map(|units| (units, behind.offset()))),
         None => Ok(None),
     }
 }
@@ -102,7 +102,7 @@ const UNITS: [UnitsRow; 5] = [
 
 #[test]
 fn a_string_by_its_units(rt: HostRuntime) -> Result<(), Fail> {
-    for (octets, wanted, place) in UNITS {
+    for (octets, wanted, offset) in UNITS {
         let Some((token, behind)) = next_token(rt.alloc(), open(octets)?)? else {
             return Err(Fail::from("it is no string"));
         };
@@ -110,7 +110,7 @@ fn a_string_by_its_units(rt: HostRuntime) -> Result<(), Fail> {
             return Err(Fail::from("it is no string"));
         };
         assert_eq!(rt; text.units(), wanted);
-        assert_eq!(rt; behind.place(), place);
+        assert_eq!(rt; behind.offset(), offset);
     }
     Ok(())
 }

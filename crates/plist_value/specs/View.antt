@@ -2,7 +2,7 @@
 use Rattle.std.specs.Prelude.{ℕ, List, [], ◌∷◌, map}
 use Rattle.plist_value.specs.Plist.{text, whole, flag, real4, real8, moment, bytes, Plist, scalar}
 use Rattle.plist_value.specs.Plist.{list, table, Items, no_items, item, Pairs, no_pairs, pair}
-use Rattle.plist_value.specs.Wholes.{number_of}
+use Rattle.plist_value.specs.Wholes.{integer_of}
 use Rattle.plist_value.specs.declared.value.Value.{Value, fold-Value}
 use Rattle.plist_value.specs.declared.value.Value.TheOpen.{Value-F}
 
@@ -17,7 +17,7 @@ pairs_of (p ∷ ps) = pair p.0 p.1 (pairs_of ps)
 -- one level; the values in it are already property lists
 abbrev pub view_step : Value-F Plist → Plist
 view_step (Value-F.Text units) = scalar (text units)
-view_step (Value-F.Whole w) = scalar (whole (number_of w))
+view_step (Value-F.Whole w) = scalar (whole (integer_of w))
 view_step (Value-F.Flag b) = scalar (flag b)
 view_step (Value-F.Real4 xs) = scalar (real4 xs)
 view_step (Value-F.Real8 xs) = scalar (real8 xs)

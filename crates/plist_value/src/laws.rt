@@ -5,7 +5,7 @@ ghost use Rattle.std.specs.Cmp.Lexicographic.{slice_cmp};
 ghost use Rattle.plist_value.specs.Laws.{IsEqualityOf, IsOrderOf, IsHashOf};
 ghost use Rattle.plist_value.specs.Scalars.{content_of};
 ghost use Rattle.plist_value.specs.Texts.{units_of};
-ghost use Rattle.plist_value.specs.Wholes.{number_of};
+ghost use Rattle.plist_value.specs.Wholes.{integer_of};
 
 use crate::{ScalarRef, TextRef, Utf16, Whole};
 use std::hash::Hash;
@@ -34,6 +34,6 @@ pub fn owned_texts_by_units()
 
 /// Integers are equal if and only if the numbers are, and then they hash alike.
 pub fn wholes_by_number()
-    ensures equality { IsEqualityOf number_of ⟦<Whole as PartialEq>⟧.eq }
-    ensures hash { IsHashOf number_of ⟦<Whole as Hash>⟧.hash_input }
+    ensures equality { IsEqualityOf integer_of ⟦<Whole as PartialEq>⟧.eq }
+    ensures hash { IsHashOf integer_of ⟦<Whole as Hash>⟧.hash_input }
 {}

@@ -23,12 +23,12 @@ enum Number {
 }
 
 impl Whole {
-    ghost use Rattle.plist_value.specs.Wholes.{number_of};
+    ghost use Rattle.plist_value.specs.Wholes.{integer_of};
 
     /// Returns the integer `n`, or `None` if and only if it is below -2^63 or above 2^64 - 1.
     pub fn new(n: i128) -> Option<Self>
         ensures in_range { IsSome result ↔ IsWhole n }
-        ensures value { IfSome result (λ w. number_of w ≡ n) }
+        ensures value { IfSome result (λ w. integer_of w ≡ n) }
     {
         if let Ok(unsigned) = u64::try_from(n) {
             return Some(Whole {
@@ -43,7 +43,7 @@ impl Whole {
 
     /// Returns the number, from -2^63 to 2^64 - 1.
     pub fn get(&self) -> i128
-        ensures value { result ≡ number_of self.now }
+        ensures value { result ≡ integer_of self.now }
         ensures in_range { IsWhole result }
     {
         match self.kept {
@@ -54,9 +54,9 @@ impl Whole {
 }
 
 impl PartialEq for Whole {
-    ghost use Rattle.plist_value.specs.Wholes.{number_of};
+    ghost use Rattle.plist_value.specs.Wholes.{integer_of};
 
-    ghost eq = { on number_of int_eq };
+    ghost eq = { on integer_of int_eq };
 
     ghost laws = { Prim.search (comparing, rules) };
 
@@ -71,9 +71,9 @@ impl Eq for Whole {
 
 /// Hashes the number alone.
 impl Hash for Whole {
-    ghost use Rattle.plist_value.specs.Wholes.{number_of};
+    ghost use Rattle.plist_value.specs.Wholes.{integer_of};
 
-    ghost hash_input = { λ whole. fed.i128 (number_of whole) };
+    ghost hash_input = { λ whole. fed.i128 (integer_of whole) };
 
     ghost respects_eq = { Prim.search (hashing, rules) };
 

@@ -121,7 +121,7 @@ fn answer_tokens(alloc: Global, name: &str, octets: &[u8]) -> Result<String, All
         Ok(found) => found,
         Err(fault) => return format!(in alloc; "{name}: refused {fault} ({})", fault.code()),
     };
-    let start = open(octets).map_or(0, |cursor| cursor.place());
+    let start = open(octets).map_or(0, |cursor| cursor.offset());
     let mut line = format!(in alloc; "{name}: from {start}")?;
     for token in &found {
         put_token(&mut line, token)?;

@@ -15,8 +15,8 @@ pub(crate) fn answer_several(alloc: Global, word: &str, row: &Row) -> Result<Str
     let mut words = Vec::new(alloc);
     words.push("plistconv")?;
     words.push(word)?;
-    for (place, input) in row.inputs.iter().enumerate() {
-        let path = path_of(place);
+    for (index, input) in row.inputs.iter().enumerate() {
+        let path = path_of(index);
         words.push(path)?;
         files.put(alloc, path, Vec::from_slice(alloc, input.as_slice())?)?;
     }
@@ -35,8 +35,8 @@ pub(crate) fn answer_several(alloc: Global, word: &str, row: &Row) -> Result<Str
 }
 
 // Returns the path of an input: a letter for each of the first four.
-fn path_of(place: usize) -> &'static str {
-    match place {
+fn path_of(index: usize) -> &'static str {
+    match index {
         0 => "a",
         1 => "b",
         2 => "c",

@@ -10,7 +10,7 @@ use std::alloc::{AllocError, Global};
 #[derive(Drop)]
 pub struct Draft {
     octets: Vec<u8>,
-    places: Vec<u64>,
+    offsets: Vec<u64>,
 }
 
 impl Draft {
@@ -18,26 +18,29 @@ impl Draft {
     pub fn new(alloc: Global) -> Result<Draft, AllocError> {
         Ok(Draft {
             octets: Vec::from_slice(alloc, b"bplist00")?,
-            places: Vec::new(alloc),
+            offsets: Vec::new(alloc),
         })
     }
 
     /// Appends an object.
     pub fn put(&mut self, object: &[u8]) -> Result<(), AllocError> {
-        self.places.push(self.octets.len() as u64)?;
+        self.offsets.push(self.octets.len() as u64)?;
         self.octets.extend_from_slice(object)
     }
 
     /// Returns the file, with offsets and references of the given widths in bytes.
     pub fn finish(self, offset_width: u8, reference_width: u8) -> Result<Vec<u8>, AllocError> {
-        let Draft { mut octets, places } = self;
+        let Draft {
+            mut octets,
+            offsets,
+        } = self;
         let table = octets.len() as u64;
-        for place in places.as_slice() {
+        for offset in offsets.as_slice() {
             let skipped = 8 - usize::from(offset_width.min(8));
-            octets.extend_from_slice(&place.to_be_bytes()[skipped..])?;
+            octets.extend_from_slice(&offset.to_be_bytes()[skipped..])?;
         }
         let widths = [offset_width, reference_width];
-        put_trailer(&mut octets, widths, places.len() as u64, table)?;
+        put_trailer(&mut octets, widths, offsets.len() as u64, table)?;
         Ok(octets)
     }
 }
@@ -83,9 +86,9 @@ pub fn end(
     widths: [u8; 2],
     count: u64,
 ) -> Result<(), AllocError> {
-    let place = file.len() as u64;
+    let offset = file.len() as u64;
     file.extend_from_slice(table)?;
-    put_trailer(file, widths, count, place)
+    put_trailer(file, widths, count, offset)
 }
 
 /// Appends a trailer with these widths of an offset and of a reference, this number of objects and

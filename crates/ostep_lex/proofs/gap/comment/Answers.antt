@@ -13,4 +13,4 @@ returns-in-Some-block_comment-clause-ok c =
 
 pub returns-in-None-clause-err : goal.returns-in-None-clause-err
 returns-in-None-clause-err c =
-    comment_fault _ _ _ (c.requires.slash ∙ ap (λ t. slash ∷ t) c.in-Some-after.ensures.0) c.in-None.ensures c.place.ensures
+    comment_fault _ _ _ (c.requires.slash ∙ ap (λ t. slash ∷ t) c.in-Some-after.ensures.0) c.in-None.ensures c.offset.ensures

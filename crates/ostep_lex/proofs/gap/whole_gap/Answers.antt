@@ -1,7 +1,7 @@
 use Rattle.std.proofs.Common.{◌∙◌, refl, subst}
 use Rattle.ostep_lex.specs.Gap.{none, piece}
 use Rattle.ostep_lex.specs.Stands.{gap, FaultAt, FaultAfterGap}
-use Rattle.ostep_lex.specs.Cursor.{PassesPiece, ahead, places_in}
+use Rattle.ostep_lex.specs.Cursor.{PassesPiece, ahead, offsets_in}
 use Rattle.ostep_lex.proofs.Exits.{passed_on}
 use Rattle.ostep_lex.proofs.StretchLemmas.{gap_stretch}
 use Rattle.ostep_lex.proofs.gap.whole_gap.Goals as goal
@@ -9,7 +9,7 @@ use Rattle.ostep_lex.proofs.gap.whole_gap.Goals as goal
 pub returns-in_err-after-clause-err : goal.returns-in_err-after-clause-err
 returns-in_err-after-clause-err c =
     let rest = c.loop-after.rest in
-    passed_on (FaultAfterGap (places_in c.args.cursor) (ahead c.args.cursor)) _ c.from_residual.result c.from_residual.ensures.1
+    passed_on (FaultAfterGap (offsets_in c.args.cursor) (ahead c.args.cursor)) _ c.from_residual.result c.from_residual.ensures.1
     (gap (c.loop-after.invariant.0 _ none) (subst (λ p. FaultAt p (ahead rest) c.in_err-after.field-0.0) c.loop-after.invariant.1 c.in_err-after.ensures.err))
 
 pub loop-after-init : goal.loop-after-init

@@ -17,15 +17,15 @@ pub returns-then-c-mark-clause-some : goal.returns-then-c-mark-clause-some
 returns-then-c-mark-clause-some c octets tokens b =
     let same : c.in-Some.c ≡ c.args.mark = grind (arith, nat_tests) in
     let first : ahead c.loop-c.rest ≡ c.args.mark ∷ ahead c.in-Some.after = subst (λ d. ahead c.loop-c.rest ≡ d ∷ ahead c.in-Some.after) same c.in-Some.ensures.0 in
-    after_more b (mark_placed c.args.mark (lexeme_of c.in_ok-kind.kind) c.args.cursor c.loop-c.rest c.in-Some.after c.place.result c.place-then-c-mark.result
-    (c.loop-c.invariant.0 _ none) c.loop-c.invariant.1 first c.in-Some.ensures.1 (sym c.in_ok-kind.ensures) c.place.ensures c.place-then-c-mark.ensures)
+    after_more b (mark_placed c.args.mark (lexeme_of c.in_ok-kind.kind) c.args.cursor c.loop-c.rest c.in-Some.after c.offset.result c.offset-then-c-mark.result
+    (c.loop-c.invariant.0 _ none) c.loop-c.invariant.1 first c.in-Some.ensures.1 (sym c.in_ok-kind.ensures) c.offset.ensures c.offset-then-c-mark.ensures)
 
 pub returns-then-c-mark-clause-shorter : goal.returns-then-c-mark-clause-shorter
 returns-then-c-mark-clause-shorter c =
     let same : c.in-Some.c ≡ c.args.mark = grind (arith, nat_tests) in
     let first : ahead c.loop-c.rest ≡ c.args.mark ∷ ahead c.in-Some.after = subst (λ d. ahead c.loop-c.rest ≡ d ∷ ahead c.in-Some.after) same c.in-Some.ensures.0 in
-    placed_shorter (mark_placed c.args.mark (lexeme_of c.in_ok-kind.kind) c.args.cursor c.loop-c.rest c.in-Some.after c.place.result c.place-then-c-mark.result
-    (c.loop-c.invariant.0 _ none) c.loop-c.invariant.1 first c.in-Some.ensures.1 (sym c.in_ok-kind.ensures) c.place.ensures c.place-then-c-mark.ensures)
+    placed_shorter (mark_placed c.args.mark (lexeme_of c.in_ok-kind.kind) c.args.cursor c.loop-c.rest c.in-Some.after c.offset.result c.offset-then-c-mark.result
+    (c.loop-c.invariant.0 _ none) c.loop-c.invariant.1 first c.in-Some.ensures.1 (sym c.in_ok-kind.ensures) c.offset.ensures c.offset-then-c-mark.ensures)
 
 pub returns-clause-none : goal.returns-clause-none
 returns-clause-none c lexeme after m r = elim c.match-first.branch [

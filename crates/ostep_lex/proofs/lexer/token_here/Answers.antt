@@ -4,7 +4,7 @@ use Rattle.ostep_lex.specs.Character.{less_than}
 use Rattle.ostep_lex.specs.Lexeme
 use Rattle.ostep_lex.specs.Lexeme.{IsToken, lexeme_of, mark_token}
 use Rattle.ostep_lex.specs.Stands.{QuotedFault, OctetsFault, FaultAt}
-use Rattle.ostep_lex.specs.Cursor.{ahead, places_in, UnlessMemory}
+use Rattle.ostep_lex.specs.Cursor.{ahead, offsets_in, UnlessMemory}
 use Rattle.ostep_lex.proofs.Exits.{passed_on}
 use Rattle.ostep_lex.proofs.LexerSteps.{token_mark, token_run, token_quoted, token_data, quoted_fault, data_fault, unexpected_fault}
 use Rattle.ostep_lex.proofs.lexer.token_here.Goals as goal
@@ -24,9 +24,9 @@ returns-then-is_run-clause-ok c = record {
 
 pub returns-in_err-units-2-clause-err : goal.returns-in_err-units-2-clause-err
 returns-in_err-units-2-clause-err c =
-    passed_on (UnlessMemory (FaultAt (places_in c.args.cursor) (ahead c.args.cursor))) _ c.from_residual-in_err-units-2.result c.from_residual-in_err-units-2.ensures.1
-    (λ n. quoted_fault _ _ _ _ _ _ c.in-Some.ensures.0 (sym c.if-is_quote.ensures) c.place.ensures
-    (subst (λ p. QuotedFault p c.place.result c.in-Some.c (ahead c.in-Some.after) c.in_err-units-2.field-0.0) c.in-Some.ensures.1 (c.in_err-units-2.ensures.err n)))
+    passed_on (UnlessMemory (FaultAt (offsets_in c.args.cursor) (ahead c.args.cursor))) _ c.from_residual-in_err-units-2.result c.from_residual-in_err-units-2.ensures.1
+    (λ n. quoted_fault _ _ _ _ _ _ c.in-Some.ensures.0 (sym c.if-is_quote.ensures) c.offset.ensures
+    (subst (λ p. QuotedFault p c.offset.result c.in-Some.c (ahead c.in-Some.after) c.in_err-units-2.field-0.0) c.in-Some.ensures.1 (c.in_err-units-2.ensures.err n)))
 
 pub returns-then-is_quote-clause-ok : goal.returns-then-is_quote-clause-ok
 returns-then-is_quote-clause-ok c = record {
@@ -37,7 +37,7 @@ returns-then-is_quote-clause-ok c = record {
 
 pub returns-in_err-octets-clause-err : goal.returns-in_err-octets-clause-err
 returns-in_err-octets-clause-err c =
-    passed_on (UnlessMemory (FaultAt (places_in c.args.cursor) (ahead c.args.cursor))) _ c.from_residual-in_err-octets.result c.from_residual-in_err-octets.ensures.1
+    passed_on (UnlessMemory (FaultAt (offsets_in c.args.cursor) (ahead c.args.cursor))) _ c.from_residual-in_err-octets.result c.from_residual-in_err-octets.ensures.1
     (λ n. data_fault _ _ _ _ _ c.in-Some.ensures.0 c.if-c-eq60.true
     (subst (λ p. OctetsFault p (ahead c.in-Some.after) c.in_err-octets.field-0.0) c.in-Some.ensures.1 (c.in_err-octets.ensures.err n)))
 
@@ -51,4 +51,4 @@ pub returns-clause-err : goal.returns-clause-err
 returns-clause-err c n =
     let other : (c.in-Some.c == less_than) ≡ false = grind (arith, nat_tests) in
     let mark : mark_token c.in-Some.c ≡ None = sym c.in_default-mark_token.ensures in
-    unexpected_fault _ _ _ _ _ c.in-Some.ensures.0 mark (sym c.if-is_run.ensures) (sym c.if-is_quote.ensures) other c.requires c.place-2.ensures
+    unexpected_fault _ _ _ _ _ c.in-Some.ensures.0 mark (sym c.if-is_run.ensures) (sym c.if-is_quote.ensures) other c.requires c.offset-2.ensures

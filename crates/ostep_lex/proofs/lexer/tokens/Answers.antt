@@ -1,7 +1,7 @@
 use Rattle.std.proofs.Common.{◌∷◌, ◌++◌, [], map, subst}
-use Rattle.ostep_lex.specs.Lexeme.{placed}
+use Rattle.ostep_lex.specs.Lexeme.{located}
 use Rattle.ostep_lex.specs.Lexing.{HasTokens, HasNoTokens}
-use Rattle.ostep_lex.specs.Stands.{Stands}
+use Rattle.ostep_lex.specs.Stands.{StandsInTokens}
 use Rattle.ostep_lex.specs.Cursor.{IsAfter, UnlessMemory}
 use Rattle.ostep_lex.proofs.LawProofs.{HasTokens-spans}
 use Rattle.ostep_lex.proofs.Exits.{passed_on}
@@ -14,7 +14,7 @@ returns-in_err-rest-clause-refused c =
 
 pub returns-in_err-token-clause-stands : goal.returns-in_err-token-clause-stands
 returns-in_err-token-clause-stands c =
-    passed_on (Stands c.args.octets.now) _ c.from_residual-in_err-token.result c.from_residual-in_err-token.ensures.1
+    passed_on (StandsInTokens c.args.octets.now) _ c.from_residual-in_err-token.result c.from_residual-in_err-token.ensures.1
     (c.in_err-token.ensures.stands _ _ c.loop-found.invariant)
 
 pub returns-in_err-token-clause-refused : goal.returns-in_err-token-clause-refused
@@ -24,11 +24,11 @@ returns-in_err-token-clause-refused c =
 
 pub loop-found-preserved : goal.loop-found-preserved
 loop-found-preserved c =
-    let b : IsAfter c.args.octets.now (map placed c.loop-found.found.items ++ placed c.in-Some.token ∷ []) c.in-Some.after =
+    let b : IsAfter c.args.octets.now (map located c.loop-found.found.items ++ located c.in-Some.token ∷ []) c.in-Some.after =
     rw c.in-Some.is at (c.in_ok-token.ensures.ok _ _ c.loop-found.invariant) in
     subst (λ ts. IsAfter c.args.octets.now ts c.in-Some.after) (found_more c.loop-found.found.items c.push.new.self.items c.in-Some.token c.in_ok-push.ensures.items) b
 
 pub returns-clause-spans : goal.returns-clause-spans
 returns-clause-spans c =
-    let all : HasTokens c.args.octets.now (map placed c.loop-found.found.items) = rw c.in_default.is at (c.in_ok-token.ensures.ok _ _ c.loop-found.invariant) in
+    let all : HasTokens c.args.octets.now (map located c.loop-found.found.items) = rw c.in_default.is at (c.in_ok-token.ensures.ok _ _ c.loop-found.invariant) in
     HasTokens-spans all

@@ -1,7 +1,7 @@
 use Rattle.std.proofs.Common.{◌≡◌, ◌<◌, ◌≤◌, ◌++◌, [], length, sym, ap, subst, arith, append-nil, ◌∙◌}
 use Rattle.ostep_lex.specs.Octets.{Octets, piece}
 use Rattle.ostep_lex.specs.Stands
-use Rattle.ostep_lex.specs.Encoding.{place}
+use Rattle.ostep_lex.specs.Encoding.{offset}
 use Rattle.ostep_lex.specs.Cursor.{ahead}
 use Rattle.ostep_lex.proofs.PieceSteps.{appended, octets_close, cut_data_fault, octets_piece_shorter, octets_pairs, fault_pairs, pairs_shorter}
 use Rattle.ostep_lex.proofs.octets.octets.Goals as goal
@@ -41,4 +41,4 @@ loop-c-preserved c =
 
 pub returns-clause-err : goal.returns-clause-err
 returns-clause-err c n =
-    c.loop-c.invariant.1 _ (cut_data_fault _ _ _ c.in_default.ensures (subst (λ p. c.place.result ≡ place p (ahead c.loop-c.rest)) c.loop-c.invariant.2 c.place.ensures))
+    c.loop-c.invariant.1 _ (cut_data_fault _ _ _ c.in_default.ensures (subst (λ p. c.offset.result ≡ offset p (ahead c.loop-c.rest)) c.loop-c.invariant.2 c.offset.ensures))

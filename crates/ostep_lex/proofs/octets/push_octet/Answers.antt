@@ -15,12 +15,12 @@ returns-then-is_white-clause-ok c = record {
 pub returns-in_default-clause-err : goal.returns-in_default-clause-err
 returns-in_default-clause-err c n =
     let inside : (c.args.c == greater_than) ≡ false = grind (arith, nat_tests) in
-    other_fault _ _ _ _ _ c.requires.first (sym c.if-is_white.ensures) c.in_default.ensures inside c.place.ensures
+    other_fault _ _ _ _ _ c.requires.first (sym c.if-is_white.ensures) c.in_default.ensures inside c.offset.ensures
 
 pub returns-in_default-digit-clause-err : goal.returns-in_default-digit-clause-err
 returns-in_default-digit-clause-err c n =
     let d = c.in-Some.ensures in
-    odd_fault _ _ _ _ _ d.first d.hexadecimal c.in_default-digit.ensures c.place-in_default-digit.ensures
+    odd_fault _ _ _ _ _ d.first d.hexadecimal c.in_default-digit.ensures c.offset-in_default-digit.ensures
 
 pub returns-clause-ok : goal.returns-clause-ok
 returns-clause-ok c =

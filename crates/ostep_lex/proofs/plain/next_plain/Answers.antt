@@ -9,7 +9,7 @@ pub returns-clause-some : goal.returns-clause-some
 returns-clause-some c octets tokens b =
     let t : PassesToken (text (units_of c.in_ok-text.text)) c.in-Ok.start c.in_ok-octets.end =
     subst (λ us. PassesToken (text us) c.in-Ok.start c.in_ok-octets.end) (sym c.in_ok-text.ensures.text) c.in_ok-octets.ensures in
-    after_more b (passes_placed _ _ _ _ _ _ c.in-Ok.ensures.ok t c.place.ensures c.place-2.ensures)
+    after_more b (passes_placed _ _ _ _ _ _ c.in-Ok.ensures.ok t c.offset.ensures c.offset-2.ensures)
 
 pub returns-clause-shorter : goal.returns-clause-shorter
 returns-clause-shorter c =

@@ -3,7 +3,7 @@ use Rattle.ostep_lex.proofs.quoted.push_octal.Goals as goal
 
 pub returns-then-value-gt127-clause-err : goal.returns-then-value-gt127-clause-err
 returns-then-value-gt127-clause-err c start n =
-    octal_fault _ start _ _ _ _ _ c.requires.backslash c.requires.digits c.number-value.ensures.value c.if-value-gt127.true c.place.ensures
+    octal_fault _ start _ _ _ _ _ c.requires.backslash c.requires.digits c.number-value.ensures.value c.if-value-gt127.true c.offset.ensures
 
 pub returns-clause-ok : goal.returns-clause-ok
 returns-clause-ok c = record {

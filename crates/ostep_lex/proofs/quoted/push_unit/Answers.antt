@@ -7,7 +7,7 @@ use Rattle.ostep_lex.proofs.quoted.push_unit.Goals as goal
 pub returns-then-not-begins_digit-clause-err : goal.returns-then-not-begins_digit-clause-err
 returns-then-not-begins_digit-clause-err c start n =
     let none : begins_digit 16 (ahead c.args.digits) ≡ false = cc in
-    unit_fault _ start _ _ _ _ c.requires.backslash c.requires.letter none c.place.ensures
+    unit_fault _ start _ _ _ _ c.requires.backslash c.requires.letter none c.offset.ensures
 
 pub returns-clause-ok : goal.returns-clause-ok
 returns-clause-ok c =

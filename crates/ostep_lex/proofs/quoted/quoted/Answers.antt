@@ -3,7 +3,7 @@ use Rattle.std.proofs.lemmas.Bool.Decides.{nat_tests}
 use Rattle.ostep_lex.specs.Quoted.{Quoted, piece}
 use Rattle.ostep_lex.specs.Stands
 use Rattle.ostep_lex.specs.Stands.{EscapeFault, QuotedFault}
-use Rattle.ostep_lex.specs.Cursor.{ahead, places_in, UnlessMemory}
+use Rattle.ostep_lex.specs.Cursor.{ahead, offsets_in, UnlessMemory}
 use Rattle.ostep_lex.proofs.Exits.{passed_on}
 use Rattle.ostep_lex.proofs.PieceSteps.{appended, quoted_close, piece_shorter, cut_string_fault}
 use Rattle.ostep_lex.proofs.StretchLemmas.{quoted_stretch, fault_stretch, stretch_shorter}
@@ -21,7 +21,7 @@ returns-then-c-mark-clause-ok c =
 pub returns-in_err-end-clause-err : goal.returns-in_err-end-clause-err
 returns-in_err-end-clause-err c =
     let text = ahead c.loop-c.rest in
-    passed_on (UnlessMemory (QuotedFault (places_in c.args.cursor) c.args.start c.args.mark (ahead c.args.cursor))) _ c.from_residual-in_err-end.result c.from_residual-in_err-end.ensures.1
+    passed_on (UnlessMemory (QuotedFault (offsets_in c.args.cursor) c.args.start c.args.mark (ahead c.args.cursor))) _ c.from_residual-in_err-end.result c.from_residual-in_err-end.ensures.1
     (λ n. c.loop-c.invariant.1 _ (Stands.escape (subst (λ p. EscapeFault p c.args.start text c.in_err-end.field-0.0) c.loop-c.invariant.2 (c.in_err-end.ensures.err n))))
 
 pub loop-c-smaller : goal.loop-c-smaller

@@ -1,6 +1,6 @@
 use Rattle.std.proofs.Common.{map, rules}
 use Rattle.std.proofs.lemmas.List.Sorted.{IsPermutation-sym, answers_always}
-use Rattle.plist_binary.specs.Keys.{units_at}
+use Rattle.plist_binary.specs.Keys.{key_units}
 use Rattle.plist_binary.proofs.Ascents.{ascent_from_distinct, distinct_from_ascent, distinct_moved}
 use Rattle.plist_binary.proofs.dictionary.sort.Goals as goal
 
@@ -13,8 +13,8 @@ returns c =
     record {
       moved = moved;
       distinct = (
-        λ true_is. distinct_moved units_at after before (IsPermutation-sym before after moved) (distinct_from_ascent (map units_at after) (c.ascend.ensures.0 true_is)),
-        λ distinct. c.ascend.ensures.1 (ascent_from_distinct units_at after order (distinct_moved units_at before after moved distinct)),
+        λ true_is. distinct_moved key_units after before (IsPermutation-sym before after moved) (distinct_from_ascent (map key_units after) (c.ascend.ensures.0 true_is)),
+        λ distinct. c.ascend.ensures.1 (ascent_from_distinct key_units after order (distinct_moved key_units before after moved distinct)),
       );
       ascend = c.ascend.ensures;
     }

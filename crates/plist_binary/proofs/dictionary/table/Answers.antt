@@ -6,7 +6,7 @@ use Rattle.std.specs.List.{All, IsDistinct}
 use Rattle.std.specs.List.Sorted.{IsStrictlySortedBy}
 use Rattle.std.specs.Map.{keys_of}
 use Rattle.plist_binary.specs.declared.dictionary.Key.{Key}
-use Rattle.plist_binary.specs.Keys.{place_of, pair_at}
+use Rattle.plist_binary.specs.Keys.{index_of, pair_at}
 use Rattle.plist_binary.proofs.Ascents.{keys-pairs, left_apart, last_within, left_within, moved_more}
 use Rattle.plist_binary.proofs.dictionary.table.Goals as goal
 
@@ -16,8 +16,8 @@ loop-key-preserved c =
     let key = c.in-Some.key in
     let items = c.in-Some.ensures.items in
     let most = length c.args.values.items in
-    let apart = subst (λ (l : List Key). IsDistinct (λ x y. x == y) (map place_of l)) items c.loop-key.invariant.apart in
-    let within = subst (λ (l : List Key). All (λ key. place_of key < most) l) items c.loop-key.invariant.within in
+    let apart = subst (λ (l : List Key). IsDistinct (λ x y. x == y) (map index_of l)) items c.loop-key.invariant.apart in
+    let within = subst (λ (l : List Key). All (λ key. index_of key < most) l) items c.loop-key.invariant.within in
     let pairs = subst (λ (l : List Key). map (pair_at c.loop-key.values.items) l ++ c.loop-key.pairs.entries ≡ map (pair_at c.args.values.items) c.args.keys.items) items c.loop-key.invariant.pairs in
     let below = last_within left key most within in
     record {

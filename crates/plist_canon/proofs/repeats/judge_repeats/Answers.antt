@@ -2,7 +2,7 @@ use Rattle.std.proofs.Common.{ℕ, length, sym, ap, subst, ◌∙◌, arith, add
 use Rattle.std.specs.Option.{is_some}
 use Rattle.plist_object.specs.Views.{octets_of}
 use Rattle.plist_canon.specs.Rules.{IsNoRepeat}
-use Rattle.plist_engine.specs.RepeatFilter.{HasAdded}
+use Rattle.plist_write.specs.RepeatFilter.{HasAdded}
 use Rattle.plist_canon.specs.Seen.{HasSeen}
 use Rattle.plist_object.proofs.KeysInTurn.{below_or_last}
 use Rattle.plist_canon.proofs.repeats.judge_repeats.Goals as goal

@@ -4,7 +4,7 @@ use Rattle.std.proofs.lemmas.Result.{err_from_is_err_and}
 use Rattle.plist_object.specs.Spelled.{IsBinary}
 use Rattle.plist_object.specs.Views.{octets_of}
 use Rattle.plist_value.specs.View.{view}
-use Rattle.plist_engine.proofs.FileSteps.{canon-some}
+use Rattle.plist_write.proofs.FileSteps.{canon-some}
 use Rattle.plist_canon.proofs.writing.write_canonical_with_hasher.Goals as goal
 
 pub write_canonical_of-requires-clause-ready : goal.write_canonical_of-requires-clause-ready

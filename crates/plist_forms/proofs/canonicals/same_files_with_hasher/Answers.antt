@@ -1,8 +1,8 @@
 use Rattle.std.proofs.Common.{◌≡◌, ◌∙◌, ap, sym}
 use Rattle.std.proofs.lemmas.Bool.Decides.{Decides-eqb}
 use Rattle.std.proofs.lemmas.Slice.Eq.{slice_eq-Decides}
-use Rattle.plist_engine.specs.Canonical.{canon}
-use Rattle.plist_engine.proofs.Binary.{canon-injective}
+use Rattle.plist_write.specs.Canonical.{canon}
+use Rattle.plist_write.proofs.Binary.{canon-injective}
 use Rattle.plist_forms.proofs.Accepting.{accepted_fits, accepted_valid}
 use Rattle.plist_forms.proofs.canonicals.same_files_with_hasher.Goals as goal
 

@@ -1,5 +1,5 @@
 use Rattle.std.proofs.Common.{ap}
-use Rattle.plist_engine.specs.Canonical.{canon}
+use Rattle.plist_write.specs.Canonical.{canon}
 use Rattle.plist_forms.proofs.Accepting.{accepted_fits, accepted_valid}
 use Rattle.plist_forms.proofs.laws.headline.Goals as goal
 

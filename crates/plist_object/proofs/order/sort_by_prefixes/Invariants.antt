@@ -1,13 +1,13 @@
 use Rattle.std.proofs.Common.{◌≡◌, length, map}
 use Rattle.std.specs.Prelude.{All}
 use Rattle.std.specs.List.Sorted.{IsNonDecreasingBy, IsPermutation}
-use Rattle.plist_object.specs.KeyOrder.{TellsOrder, number_of, place_of}
+use Rattle.plist_object.specs.KeyOrder.{TellsOrder, sort_key, index_of}
 use Rattle.plist_object.proofs.order.sort_by_prefixes.Given as goal
 
 abbrev pub invariant-loop : goal.invariant-loop
 invariant-loop l = record {
   tell : All (λ row. All (TellsOrder l.texts row) l.rows) l.rows;
-  sorted : IsNonDecreasingBy number_of l.rows;
-  moved : IsPermutation (map place_of l.initial.rows) (map place_of l.rows);
+  sorted : IsNonDecreasingBy sort_key l.rows;
+  moved : IsPermutation (map index_of l.initial.rows) (map index_of l.rows);
   long : length l.rows ≡ length l.initial.rows;
 }

@@ -3,8 +3,8 @@ use Rattle.plist_object.specs.Views.{octets_of, numbers_of}
 use Rattle.plist_object.specs.KeyOrder.{HoldsString}
 use Rattle.plist_object.proofs.order.texts_of.Given as goal
 
-abbrev pub invariant-loop-place : goal.invariant-loop-place
-invariant-loop-place l = record {
-  long : length l.texts.items ≡ l.place;
-  held : (k : ℕ) → k < l.place → HoldsString (octets_of l.file) (numbers_of l.keys) l.texts.items k;
+abbrev pub invariant-loop-index : goal.invariant-loop-index
+invariant-loop-index l = record {
+  long : length l.texts.items ≡ l.index;
+  held : (k : ℕ) → k < l.index → HoldsString (octets_of l.file) (numbers_of l.keys) l.texts.items k;
 }

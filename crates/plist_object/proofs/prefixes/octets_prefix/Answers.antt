@@ -9,9 +9,9 @@ loop-i-preserved c =
 
 pub overflow_mul-prefix : goal.overflow_mul-prefix
 overflow_mul-prefix c =
-    let place = c.args.front + c.loop-i.i in
-    let small = c.type_inv.octets place in
-    let below = octets_fit c.args.front c.loop-i.i c.loop-i.prefix (get_or c.args.octets.now place 0) c.args.octets.now (omega arith) c.requires (omega (arith, small)) refl c.loop-i.invariant in
+    let index = c.args.front + c.loop-i.i in
+    let small = c.type_inv.octets index in
+    let below = octets_fit c.args.front c.loop-i.i c.loop-i.prefix (get_or c.args.octets.now index 0) c.args.octets.now (omega arith) c.requires (omega (arith, small)) refl c.loop-i.invariant in
     omega (arith, below)
 
 pub overflow_add-prefix : goal.overflow_add-prefix

@@ -1,9 +1,9 @@
 use Rattle.std.proofs.Common.{ℕ, ◌<◌, get_or, drop}
 use Rattle.plist_object.specs.declared.order.Row.{Row}
-use Rattle.plist_object.specs.KeyOrder.{units_at}
+use Rattle.plist_object.specs.KeyOrder.{row_units}
 use Rattle.plist_object.specs.Prefixes.{IsNarrow}
 use Rattle.plist_object.proofs.prefixes.width_of.Given as goal
 
 abbrev pub invariant-loop-row : goal.invariant-loop-row
 invariant-loop-row l =
-    (k : ℕ) (d : Row) → k < l.row-index → IsNarrow (drop l.front (units_at l.texts (get_or l.rows k d)))
+    (k : ℕ) (d : Row) → k < l.row-index → IsNarrow (drop l.front (row_units l.texts (get_or l.rows k d)))

@@ -1,5 +1,5 @@
 use Rattle.std.proofs.Common.{◌≡◌, ℕ, List, ◌++◌, length, Ok}
-use Rattle.plist_engine.specs.Output.{Goes, state_of}
+use Rattle.plist_write.specs.BufferedSink.{Emits, sink_state}
 use Rattle.plist_print.specs.Printed.{indent, octet_lines}
 use Rattle.plist_print.proofs.data.print_lines.Given as goal
 
@@ -8,7 +8,7 @@ abbrev pub invariant-loop-left : goal.invariant-loop-left
 invariant-loop-left g l = record {
   done : List ℕ;
   split : done ++ octet_lines (indent l.level) l.left ≡ octet_lines (indent l.level) l.octets;
-  goes : Goes {T = Unit {0}} done (state_of g.W.Sink l.fn.out) (state_of g.W.Sink l.out) (Ok tt);
+  emits : Emits {T = Unit {0}} done (sink_state g.W.Sink l.fn.out) (sink_state g.W.Sink l.out) (Ok tt);
 }
 
 abbrev pub decreases-loop-left : goal.decreases-loop-left

@@ -1,27 +1,27 @@
 use Rattle.std.proofs.Common.{◌≡◌, ◌+◌, min, [], ◌∷◌, ◌++◌, ap, ◌∙◌}
 use Rattle.plist_value.specs.Plist.{bytes}
-use Rattle.plist_engine.specs.Output.{state_of}
+use Rattle.plist_write.specs.BufferedSink.{sink_state}
 use Rattle.plist_print.specs.Printed.{indent, enclosed, octet_lines, printed_line}
 use Rattle.plist_print.proofs.DataLines.{bytes-enclosed}
-use Rattle.plist_engine.proofs.Steps.{refused, brackets_unopened, brackets_unfilled, brackets_closed}
+use Rattle.plist_write.proofs.Steps.{refused, brackets_unopened, brackets_unfilled, brackets_closed}
 use Rattle.plist_print.proofs.data.print_long_data.Goals as goal
 
 pub returns-in_err-put : goal.returns-in_err-put
 returns-in_err-put g c =
     let xs = c.args.octets.now in
     let is = bytes-enclosed c.args.level xs c.requires in
-    record { goes = refused c.from_residual.result c.from_residual.ensures.1 (brackets_unopened (60 ∷ 10 ∷ []) (octet_lines (indent (min c.args.level 32 + 1)) xs) (indent c.args.level ++ (62 ∷ 10 ∷ [])) (printed_line c.args.level (bytes xs)) is (state_of g.W.Sink c.args.out.now) (state_of g.W.Sink c.put.new.self) _ c.in_err-put.ensures.goes) }
+    record { emits = refused c.from_residual.result c.from_residual.ensures.1 (brackets_unopened (60 ∷ 10 ∷ []) (octet_lines (indent (min c.args.level 32 + 1)) xs) (indent c.args.level ++ (62 ∷ 10 ∷ [])) (printed_line c.args.level (bytes xs)) is (sink_state g.W.Sink c.args.out.now) (sink_state g.W.Sink c.put.new.self) _ c.in_err-put.ensures.emits) }
 
 pub returns-in_err-print_lines : goal.returns-in_err-print_lines
 returns-in_err-print_lines g c =
     let xs = c.args.octets.now in
     let lines = octet_lines (indent (c.min.result + 1)) xs in
     let is : enclosed c.args.level 60 62 lines ≡ printed_line c.args.level (bytes xs) = ap (λ n. enclosed c.args.level 60 62 (octet_lines (indent (n + 1)) xs)) c.min.ensures ∙ bytes-enclosed c.args.level xs c.requires in
-    record { goes = refused c.from_residual-in_err-print_lines.result c.from_residual-in_err-print_lines.ensures.1 (brackets_unfilled (60 ∷ 10 ∷ []) lines (indent c.args.level ++ (62 ∷ 10 ∷ [])) (printed_line c.args.level (bytes xs)) is (state_of g.W.Sink c.args.out.now) (state_of g.W.Sink c.put.new.self) (state_of g.W.Sink c.print_lines.new.out) _ _ c.in_ok-put.ensures.goes c.in_err-print_lines.ensures.goes) }
+    record { emits = refused c.from_residual-in_err-print_lines.result c.from_residual-in_err-print_lines.ensures.1 (brackets_unfilled (60 ∷ 10 ∷ []) lines (indent c.args.level ++ (62 ∷ 10 ∷ [])) (printed_line c.args.level (bytes xs)) is (sink_state g.W.Sink c.args.out.now) (sink_state g.W.Sink c.put.new.self) (sink_state g.W.Sink c.print_lines.new.out) _ _ c.in_ok-put.ensures.emits c.in_err-print_lines.ensures.emits) }
 
 pub returns : goal.returns
 returns g c =
     let xs = c.args.octets.now in
     let lines = octet_lines (indent (c.min.result + 1)) xs in
     let is : enclosed c.args.level 60 62 lines ≡ printed_line c.args.level (bytes xs) = ap (λ n. enclosed c.args.level 60 62 (octet_lines (indent (n + 1)) xs)) c.min.ensures ∙ bytes-enclosed c.args.level xs c.requires in
-    record { goes = brackets_closed (60 ∷ 10 ∷ []) lines (indent c.args.level ++ (62 ∷ 10 ∷ [])) (printed_line c.args.level (bytes xs)) is (state_of g.W.Sink c.args.out.now) (state_of g.W.Sink c.put.new.self) (state_of g.W.Sink c.print_lines.new.out) (state_of g.W.Sink c.end_lines.new.out) _ _ c.end_lines.result c.in_ok-put.ensures.goes c.in_ok-print_lines.ensures.goes c.end_lines.ensures.goes }
+    record { emits = brackets_closed (60 ∷ 10 ∷ []) lines (indent c.args.level ++ (62 ∷ 10 ∷ [])) (printed_line c.args.level (bytes xs)) is (sink_state g.W.Sink c.args.out.now) (sink_state g.W.Sink c.put.new.self) (sink_state g.W.Sink c.print_lines.new.out) (sink_state g.W.Sink c.end_lines.new.out) _ _ c.end_lines.result c.in_ok-put.ensures.emits c.in_ok-print_lines.ensures.emits c.end_lines.ensures.emits }

@@ -5,7 +5,7 @@ use Rattle.plist_value.specs.Texts.{units_of}
 use Rattle.plist_value.specs.Budget.{Spends}
 use Rattle.plist_value.specs.Plist.{AreUnits, AreOctets, scalar, text, bytes, list, table, no_items, no_pairs}
 use Rattle.plist_value.proofs.Pairs.{put_pair}
-use Rattle.ostep_lex.specs.Lexeme.{Lexeme, Placed, placed, lexeme_of, text as string, octets as data_token, paren_open, brace_open, equals}
+use Rattle.ostep_lex.specs.Lexeme.{Lexeme, Located, located, lexeme_of, text as string, octets as data_token, paren_open, brace_open, equals}
 use Rattle.ostep_text.specs.Begun.{opened, with_items, with_rows, with_key}
 use Rattle.ostep_text.specs.Sorting.{has_key}
 use Rattle.plist_draft.specs.Encoded.{SpellsIn, SpellItemsIn}
@@ -83,7 +83,7 @@ items-returns-in_err-after-clause-stands t c octets tokens whole b a f h d i =
 -- the items and one more, up to the token after it
 item-built : (t : ℕ) (c : items-In_ok-after t) {l : Lexeme} {end : List Lexeme} → EndsItem l end → lexeme_of c.in_ok-after.after.kind ≡ l
     → IsBuilt (SpellItemsIn (objects c.value.new.self.draft)) (c.loop-items.items.items ++ c.in_ok-item.item ∷ []) (λ vs. TakesItems c.args.self.now.left c.args.levels vs c.value.new.self.left)
-    (λ vs. (octets : List ℕ) (tokens : List Placed) → HasRead octets tokens c.args.self.now.tokens → ReadsItems octets tokens end vs c.expect_mark.new.self)
+    (λ vs. (octets : List ℕ) (tokens : List Located) → HasRead octets tokens c.args.self.now.tokens → ReadsItems octets tokens end vs c.expect_mark.new.self)
 item-built t c ends is =
     let b = c.loop-items.invariant.built in
     let i = c.in_ok-item.ensures.built in
@@ -95,7 +95,7 @@ item-built t c ends is =
       read = λ octets tokens h.
           let r = b.read octets tokens h in
           let v = i.read octets r.reads.all (c.in_ok-first.ensures.read octets r.reads.all r.reads.has) in
-          item-read r v (placed c.in_ok-after.after) ends is (c.in_ok-after.ensures.read octets v.reads.all v.reads.has);
+          item-read r v (located c.in_ok-after.after) ends is (c.in_ok-after.ensures.read octets v.reads.all v.reads.has);
     }
 
 pub items-returns-in-ParenClose-clause-built : goal.items-returns-in-ParenClose-clause-built
@@ -110,7 +110,7 @@ items-returns-in_default-clause-stands t c octets tokens whole b a f h d i =
     let r = c.loop-items.invariant.built.read octets tokens h in
     let v = c.in_ok-item.ensures.built.read octets r.reads.all (c.in_ok-first.ensures.read octets r.reads.all r.reads.has) in
     let more : Front = λ rest. (first_placed c.in_ok-first.first).lexeme ∷ v.inside rest in
-    let token = placed c.in_ok-after.after in
+    let token = located c.in_ok-after.after in
     let has = c.in_ok-after.ensures.read octets v.reads.all v.reads.has in
     c.refuse.ensures octets (v.reads.all ++ token ∷ []) has
     (expected-at v.reads.all token (λ rest. whole (r.inside (more rest))) (v.reads.follow (λ rest. whole (r.inside rest)) (r.reads.follow whole f)) has
@@ -153,7 +153,7 @@ row-returns-in_err-after-clause-stands t c octets tokens at whole b around befor
 pub row-returns-in-Equals-clause-built : goal.row-returns-in-Equals-clause-built
 row-returns-in-Equals-clause-built t c =
     let key = c.args.key.now in
-    let token = placed c.in_ok-after.after in
+    let token = located c.in_ok-after.after in
     let spent : Spends c.args.self.now.left 1 (2 * length key) c.charge.new.self.left = spends-same c.in_ok-charge.ensures.spent c.payload.ensures.payload in
     let b = c.in_ok-value-in-Equals.ensures.built in
     record {
@@ -172,7 +172,7 @@ row-returns-in-Equals-clause-kept t c =
 pub row-returns-in_err-value-in-Equals-clause-stands : goal.row-returns-in_err-value-in-Equals-clause-stands
 row-returns-in_err-value-in-Equals-clause-stands t c octets tokens at whole b around before pairs l s f h d k i =
     let has : HasRead octets (tokens ++ at ∷ []) c.charge.new.self.tokens = same-read h c.in_ok-charge.ensures.tokens in
-    let token = placed c.in_ok-after.after in
+    let token = located c.in_ok-after.after in
     let has_after = c.in_ok-after.ensures.read octets (tokens ++ at ∷ []) has in
     let once : has_key c.args.key.now pairs ≡ false = k ∙ c.if-known.false in
     let key = c.args.key.now in
@@ -185,7 +185,7 @@ row-returns-in_err-value-in-Equals-clause-stands t c octets tokens at whole b ar
 pub row-returns-in-Semicolon-clause-built : goal.row-returns-in-Semicolon-clause-built
 row-returns-in-Semicolon-clause-built t c =
     let key = c.args.key.now in
-    let token = placed c.in_ok-after.after in
+    let token = located c.in_ok-after.after in
     let spent : Spends c.args.self.now.left 1 (2 * length key) c.charge.new.self.left = spends-same c.in_ok-charge.ensures.spent c.payload.ensures.payload in
     let again : Spends c.charge.new.self.left 1 (2 * length key) c.charge-in-Semicolon.new.self.left = spends-same c.in_ok-charge-in-Semicolon.ensures.spent c.payload-in-Semicolon.ensures.payload in
     let spelled : SpellsIn (objects c.charge-in-Semicolon.new.self.draft) c.in_ok-number.number (scalar (text key)) =
@@ -207,7 +207,7 @@ row-returns-in-Semicolon-clause-kept t c =
 pub row-returns-in_err-charge-in-Semicolon-clause-stands : goal.row-returns-in_err-charge-in-Semicolon-clause-stands
 row-returns-in_err-charge-in-Semicolon-clause-stands t c octets tokens at whole b around before pairs l s f h d k i =
     let has : HasRead octets (tokens ++ at ∷ []) c.charge.new.self.tokens = same-read h c.in_ok-charge.ensures.tokens in
-    let token = placed c.in_ok-after.after in
+    let token = located c.in_ok-after.after in
     let has_after = c.in_ok-after.ensures.read octets (tokens ++ at ∷ []) has in
     let once : has_key c.args.key.now pairs ≡ false = k ∙ c.if-known.false in
     let key = c.args.key.now in
@@ -221,7 +221,7 @@ row-returns-in_err-charge-in-Semicolon-clause-stands t c octets tokens at whole 
 pub row-returns-clause-stands : goal.row-returns-clause-stands
 row-returns-clause-stands t c octets tokens at whole b around before pairs l s f h d k i =
     let has : HasRead octets (tokens ++ at ∷ []) c.charge.new.self.tokens = same-read h c.in_ok-charge.ensures.tokens in
-    let token = placed c.in_ok-after.after in
+    let token = located c.in_ok-after.after in
     let key = c.args.key.now in
     let has_after = c.in_ok-after.ensures.read octets (tokens ++ at ∷ []) has in
     let once : has_key key pairs ≡ false = k ∙ c.if-known.false in
@@ -256,14 +256,14 @@ row_value-returns-in-Semicolon-clause-built t c =
       taken = b.taken;
       read = λ octets tokens h.
           let v = b.read octets tokens (c.in_ok-first.ensures.read octets tokens h) in
-          ended-read tokens (first_placed c.in_ok-first.first) v (placed c.in_ok-after.after) (ap lexeme_of c.in-Semicolon.is) (c.in_ok-after.ensures.read octets v.reads.all v.reads.has);
+          ended-read tokens (first_placed c.in_ok-first.first) v (located c.in_ok-after.after) (ap lexeme_of c.in-Semicolon.is) (c.in_ok-after.ensures.read octets v.reads.all v.reads.has);
     }
 
 pub row_value-returns-clause-stands : goal.row_value-returns-clause-stands
 row_value-returns-clause-stands t c octets tokens whole b around f h d i =
     let v = c.in_ok-value.ensures.built.read octets tokens (c.in_ok-first.ensures.read octets tokens h) in
     let more : Front = λ rest. (first_placed c.in_ok-first.first).lexeme ∷ v.inside rest in
-    let token = placed c.in_ok-after.after in
+    let token = located c.in_ok-after.after in
     let has = c.in_ok-after.ensures.read octets v.reads.all v.reads.has in
     c.refuse.ensures octets (v.reads.all ++ token ∷ []) has
     (expected-at v.reads.all token (λ rest. whole (more rest)) (v.reads.follow whole f) has (row_value-after more d v.spells)
@@ -358,10 +358,10 @@ rows-returns-in_default-clause-stands t c octets tokens whole b a f h d i =
     (table-ended a token.lexeme (sym c.ends_table.ensures ∙ c.if-ends_table.false) none))))
 
 -- a string is a value
-string-built : (self new : Reader) (number : ℕ) (us : List ℕ) (levels : ℕ) (first : Placed) → first.lexeme ≡ string us → SpellsIn (objects new.draft) number (scalar (text us))
+string-built : (self new : Reader) (number : ℕ) (us : List ℕ) (levels : ℕ) (first : Located) → first.lexeme ≡ string us → SpellsIn (objects new.draft) number (scalar (text us))
     → Spends self.left 1 (2 * length us) new.left → 1 ≤ levels → AreUnits us → new.tokens ≡ self.tokens
     → IsBuilt (SpellsIn (objects new.draft)) number (λ v. Takes self.left levels v new.left)
-    (λ v. (octets : List ℕ) (tokens : List Placed) → HasRead octets (tokens ++ first ∷ []) self.tokens → ReadsValue octets tokens first.lexeme v new.tokens)
+    (λ v. (octets : List ℕ) (tokens : List Located) → HasRead octets (tokens ++ first ∷ []) self.tokens → ReadsValue octets tokens first.lexeme v new.tokens)
 string-built self new number us levels first l s spent some valid same = record {
   meant = scalar (text us);
   means_it = s;
@@ -401,7 +401,7 @@ value-returns-in-Other-clause-stands t c = rw c.in-Other.is c.token_value.ensure
 
 pub token_value-returns-in-Text-clause-built : goal.token_value-returns-in-Text-clause-built
 token_value-returns-in-Text-clause-built t c =
-    let first = placed c.args.first in
+    let first = located c.args.first in
     let us = units_of c.of_units.result in
     let is : us ≡ c.in-Text.text = rw c.in-Text.is at (c.of_units.ensures.text ∙ c.units.ensures) in
     let l : first.lexeme ≡ string us = ap lexeme_of c.in-Text.is ∙ ap string (sym is) in
@@ -411,7 +411,7 @@ token_value-returns-in-Text-clause-built t c =
 
 pub token_value-returns-in-Text-clause-stands : goal.token_value-returns-in-Text-clause-stands
 token_value-returns-in-Text-clause-stands t c octets tokens whole b a f h d i =
-    let first = placed c.args.first in
+    let first = located c.args.first in
     let us = units_of c.of_units.result in
     let is : us ≡ c.in-Text.text = rw c.in-Text.is at (c.of_units.ensures.text ∙ c.units.ensures) in
     let l : first.lexeme ≡ string us = ap lexeme_of c.in-Text.is ∙ ap string (sym is) in
@@ -423,38 +423,38 @@ token_value-returns-in_err-charge-in-Octets-clause-stands t c octets tokens whol
     let seen : c.as_slice.result.now ≡ c.in-Octets.octets.items = rw c.in-Octets.is at c.as_slice.ensures.value in
     let few : c.data_payload.result ≤ length c.in-Octets.octets.items = omega (arith, c.data_payload.ensures.payload, ap length seen) in
     passed_on (Stands octets) c.in_err-charge-in-Octets.field-0.0 c.from_residual.result c.from_residual.ensures.1
-    (c.in_err-charge-in-Octets.ensures.stands octets (tokens ++ placed c.args.first ∷ []) h
-    (value-refuses tokens (placed c.args.first) (data_token c.in-Octets.octets.items) whole c.args.levels c.data_payload.result c.args.self.now.left (ap lexeme_of c.in-Octets.is) f h d.at (λ rest. refl)
+    (c.in_err-charge-in-Octets.ensures.stands octets (tokens ++ located c.args.first ∷ []) h
+    (value-refuses tokens (located c.args.first) (data_token c.in-Octets.octets.items) whole c.args.levels c.data_payload.result c.args.self.now.left (ap lexeme_of c.in-Octets.is) f h d.at (λ rest. refl)
     (λ rest. few) i))
 
 pub token_value-returns-in_err-charge-in-ParenOpen-clause-stands : goal.token_value-returns-in_err-charge-in-ParenOpen-clause-stands
 token_value-returns-in_err-charge-in-ParenOpen-clause-stands t c octets tokens whole b a f h d i =
     passed_on (Stands octets) c.in_err-charge-in-ParenOpen.field-0.0 c.from_residual-in_err-charge-in-ParenOpen.result c.from_residual-in_err-charge-in-ParenOpen.ensures.1
-    (c.in_err-charge-in-ParenOpen.ensures.stands octets (tokens ++ placed c.args.first ∷ []) h
-    (value-refuses tokens (placed c.args.first) paren_open whole c.args.levels 0 c.args.self.now.left (ap lexeme_of c.in-ParenOpen.is) f h d.at (λ rest. refl) (λ rest. omega arith) i))
+    (c.in_err-charge-in-ParenOpen.ensures.stands octets (tokens ++ located c.args.first ∷ []) h
+    (value-refuses tokens (located c.args.first) paren_open whole c.args.levels 0 c.args.self.now.left (ap lexeme_of c.in-ParenOpen.is) f h d.at (λ rest. refl) (λ rest. omega arith) i))
 
 pub token_value-returns-in_err-items-in-ParenOpen-clause-stands : goal.token_value-returns-in_err-items-in-ParenOpen-clause-stands
 token_value-returns-in_err-items-in-ParenOpen-clause-stands t c octets tokens whole b a f h d i =
     let charged = c.charge-in-ParenOpen.new.self.tokens in
-    let has : HasRead octets (tokens ++ placed c.args.first ∷ []) charged = same-read h c.in_ok-charge-in-ParenOpen.ensures.tokens in
+    let has : HasRead octets (tokens ++ located c.args.first ∷ []) charged = same-read h c.in_ok-charge-in-ParenOpen.ensures.tokens in
     let is : lexeme_of c.args.first.kind ≡ paren_open = ap lexeme_of c.in-ParenOpen.is in
     passed_on (Stands octets) c.in_err-items-in-ParenOpen.field-0.0 c.from_residual-in_err-items-in-ParenOpen.result c.from_residual-in_err-items-in-ParenOpen.ensures.1
-    (c.in_err-items-in-ParenOpen.ensures.stands octets (tokens ++ placed c.args.first ∷ []) (λ rest. whole (paren_open ∷ rest)) b a (before-at tokens (placed c.args.first) paren_open whole is f) has
+    (c.in_err-items-in-ParenOpen.ensures.stands octets (tokens ++ located c.args.first ∷ []) (λ rest. whole (paren_open ∷ rest)) b a (before-at tokens (located c.args.first) paren_open whole is f) has
     (list-due (subst (λ x. ValueDue whole b a x) is d)) (opened-left i c.in_ok-charge-in-ParenOpen.ensures.spent c.in_ok-charge-in-ParenOpen.ensures.deep))
 
 pub token_value-returns-in_err-charge-in-BraceOpen-clause-stands : goal.token_value-returns-in_err-charge-in-BraceOpen-clause-stands
 token_value-returns-in_err-charge-in-BraceOpen-clause-stands t c octets tokens whole b a f h d i =
     passed_on (Stands octets) c.in_err-charge-in-BraceOpen.field-0.0 c.from_residual-in_err-charge-in-BraceOpen.result c.from_residual-in_err-charge-in-BraceOpen.ensures.1
-    (c.in_err-charge-in-BraceOpen.ensures.stands octets (tokens ++ placed c.args.first ∷ []) h
-    (value-refuses tokens (placed c.args.first) brace_open whole c.args.levels 0 c.args.self.now.left (ap lexeme_of c.in-BraceOpen.is) f h d.at (λ rest. refl) (λ rest. omega arith) i))
+    (c.in_err-charge-in-BraceOpen.ensures.stands octets (tokens ++ located c.args.first ∷ []) h
+    (value-refuses tokens (located c.args.first) brace_open whole c.args.levels 0 c.args.self.now.left (ap lexeme_of c.in-BraceOpen.is) f h d.at (λ rest. refl) (λ rest. omega arith) i))
 
 pub token_value-returns-in_err-rows-in-BraceOpen-clause-stands : goal.token_value-returns-in_err-rows-in-BraceOpen-clause-stands
 token_value-returns-in_err-rows-in-BraceOpen-clause-stands t c octets tokens whole b a f h d i =
     let charged = c.charge-in-BraceOpen.new.self.tokens in
-    let has : HasRead octets (tokens ++ placed c.args.first ∷ []) charged = same-read h c.in_ok-charge-in-BraceOpen.ensures.tokens in
+    let has : HasRead octets (tokens ++ located c.args.first ∷ []) charged = same-read h c.in_ok-charge-in-BraceOpen.ensures.tokens in
     let is : lexeme_of c.args.first.kind ≡ brace_open = ap lexeme_of c.in-BraceOpen.is in
     passed_on (Stands octets) c.in_err-rows-in-BraceOpen.field-0.0 c.from_residual-in_err-rows-in-BraceOpen.result c.from_residual-in_err-rows-in-BraceOpen.ensures.1
-    (c.in_err-rows-in-BraceOpen.ensures.stands octets (tokens ++ placed c.args.first ∷ []) (λ rest. whole (brace_open ∷ rest)) b a (before-at tokens (placed c.args.first) brace_open whole is f) has
+    (c.in_err-rows-in-BraceOpen.ensures.stands octets (tokens ++ located c.args.first ∷ []) (λ rest. whole (brace_open ∷ rest)) b a (before-at tokens (located c.args.first) brace_open whole is f) has
     (table-due (subst (λ x. ValueDue whole b a x) is d)) (opened-left i c.in_ok-charge-in-BraceOpen.ensures.spent c.in_ok-charge-in-BraceOpen.ensures.deep))
 
 pub token_value-returns-in_ok-charge-in-Octets-clause-built : goal.token_value-returns-in_ok-charge-in-Octets-clause-built
@@ -469,7 +469,7 @@ token_value-returns-in_ok-charge-in-Octets-clause-built t c =
       meant = scalar (bytes xs.items);
       means_it = subst (λ ys. SpellsIn new number (scalar (bytes ys))) put s;
       taken = scalar-taken (bytes xs.items) (spends-same c.in_ok-charge-in-Octets.ensures.spent (c.data_payload.ensures.payload ∙ ap length seen)) c.in_ok-charge-in-Octets.ensures.deep valid;
-      read = λ octets tokens h. data-read tokens (placed c.args.first) xs.items (ap lexeme_of c.in-Octets.is) (same-read h c.in_ok-charge-in-Octets.ensures.tokens);
+      read = λ octets tokens h. data-read tokens (located c.args.first) xs.items (ap lexeme_of c.in-Octets.is) (same-read h c.in_ok-charge-in-Octets.ensures.tokens);
     }) c.put_data.ensures.spells
 
 pub token_value-returns-in_ok-charge-in-Octets-clause-kept : goal.token_value-returns-in_ok-charge-in-Octets-clause-kept
@@ -488,8 +488,8 @@ token_value-returns-in_ok-items-in-ParenOpen-clause-built t c =
       means_it = s b.meant (subst (λ xs. SpellItemsIn old xs b.meant) (sym c.deref-in-ParenOpen.ensures.value) b.means_it);
       taken = list-taken b.meant c.in_ok-charge-in-ParenOpen.ensures.spent c.in_ok-charge-in-ParenOpen.ensures.deep b.taken;
       read = λ octets tokens h.
-          let has : HasRead octets (tokens ++ placed c.args.first ∷ []) c.charge-in-ParenOpen.new.self.tokens = same-read h c.in_ok-charge-in-ParenOpen.ensures.tokens in
-          list-read tokens (placed c.args.first) (ap lexeme_of c.in-ParenOpen.is) (b.read octets (tokens ++ placed c.args.first ∷ []) has);
+          let has : HasRead octets (tokens ++ located c.args.first ∷ []) c.charge-in-ParenOpen.new.self.tokens = same-read h c.in_ok-charge-in-ParenOpen.ensures.tokens in
+          list-read tokens (located c.args.first) (ap lexeme_of c.in-ParenOpen.is) (b.read octets (tokens ++ located c.args.first ∷ []) has);
     }) c.put_list.ensures.spells
 
 pub token_value-returns-in_ok-items-in-ParenOpen-clause-kept : goal.token_value-returns-in_ok-items-in-ParenOpen-clause-kept
@@ -508,8 +508,8 @@ token_value-returns-in_ok-rows-in-BraceOpen-clause-built t c =
       means_it = s b.meant b.means_it;
       taken = table-taken b.meant c.in_ok-charge-in-BraceOpen.ensures.spent c.in_ok-charge-in-BraceOpen.ensures.deep b.taken;
       read = λ octets tokens h.
-          let has : HasRead octets (tokens ++ placed c.args.first ∷ []) c.charge-in-BraceOpen.new.self.tokens = same-read h c.in_ok-charge-in-BraceOpen.ensures.tokens in
-          pairs-table tokens (placed c.args.first) (ap lexeme_of c.in-BraceOpen.is) (b.read octets (tokens ++ placed c.args.first ∷ []) has) b.taken.valid;
+          let has : HasRead octets (tokens ++ located c.args.first ∷ []) c.charge-in-BraceOpen.new.self.tokens = same-read h c.in_ok-charge-in-BraceOpen.ensures.tokens in
+          pairs-table tokens (located c.args.first) (ap lexeme_of c.in-BraceOpen.is) (b.read octets (tokens ++ located c.args.first ∷ []) has) b.taken.valid;
     }) c.put_table.ensures.spells
 
 pub token_value-returns-in_ok-rows-in-BraceOpen-clause-kept : goal.token_value-returns-in_ok-rows-in-BraceOpen-clause-kept
@@ -521,7 +521,7 @@ token_value-returns-in_ok-rows-in-BraceOpen-clause-stands t c octets tokens whol
 
 pub token_value-returns-in_default-clause-stands : goal.token_value-returns-in_default-clause-stands
 token_value-returns-in_default-clause-stands t c octets tokens whole b a f h d i =
-    let token = placed c.args.first in
+    let token = located c.args.first in
     let kind = c.args.first.kind in
     let n = c.in_default in
     c.refuse.ensures octets (tokens ++ token ∷ []) h

@@ -1,5 +1,5 @@
 use Rattle.std.proofs.Common.{◌≡◌, ◌+◌, ◌*◌, ◌≤◌, ℕ, List, [], length}
-use Rattle.ostep_lex.specs.Lexeme.{Placed}
+use Rattle.ostep_lex.specs.Lexeme.{Located}
 use Rattle.ostep_lex.specs.Cursor.{ahead}
 use Rattle.plist_draft.specs.Encoded.{Keeps, SpellItemsIn}
 use Rattle.plist_draft.specs.View.{objects}
@@ -42,7 +42,7 @@ invariant-items-loop-items l =
       shorter : length (ahead l.self.tokens.cursor) ≤ length (ahead l.initial.self.tokens.cursor);
       kept : Keeps (objects l.initial.self.draft) (objects l.self.draft);
       built : IsBuilt (SpellItemsIn (objects l.self.draft)) l.items.items (λ vs. TakesItems l.initial.self.left l.levels vs l.self.left)
-          (λ vs. (octets : List ℕ) (tokens : List Placed) → HasRead octets tokens l.initial.self.tokens → ReadsItems octets tokens [] vs l.self.tokens);
+          (λ vs. (octets : List ℕ) (tokens : List Located) → HasRead octets tokens l.initial.self.tokens → ReadsItems octets tokens [] vs l.self.tokens);
     }
 
 -- the rows so far
@@ -53,5 +53,5 @@ invariant-rows-loop-rows l =
       kept : Keeps (objects l.initial.self.draft) (objects l.self.draft);
       even : length l.rows.keys.items ≡ length l.rows.values.items;
       built : IsBuilt (λ (rows : Rows) (ps : Pairs). SpellsRows (objects l.self.draft) rows ps × HasKeysOf l.keys ps) l.rows (λ ps. TakesPairs l.initial.self.left l.levels ps l.self.left)
-          (λ ps. (octets : List ℕ) (tokens : List Placed) → HasRead octets tokens l.initial.self.tokens → ReadsPairs octets tokens [] ps l.self.tokens);
+          (λ ps. (octets : List ℕ) (tokens : List Located) → HasRead octets tokens l.initial.self.tokens → ReadsPairs octets tokens [] ps l.self.tokens);
     }

@@ -2,7 +2,7 @@ use Rattle.std.proofs.Common.{◌≡◌, ℕ, List, ◌∷◌, ◌++◌, [], fal
 use Rattle.std.proofs.lemmas.Result.{IfOk-weaker}
 use Rattle.plist_value.specs.Plist.{Plist, no_pairs, pair, table}
 use Rattle.plist_value.proofs.Pairs.{put_pair}
-use Rattle.ostep_lex.specs.Lexeme.{Placed, text as string}
+use Rattle.ostep_lex.specs.Lexeme.{Located, text as string}
 use Rattle.ostep_text.specs.First.{first_placed, is_string}
 use Rattle.ostep_text.specs.declared.fault.TextFault.TheVariants.{Junk}
 use Rattle.ostep_text.specs.Sorting.{has_key, StandsAmong, first}
@@ -51,7 +51,7 @@ returns-in_err-first-clause-stands c octets left v m i t r =
 key-is : (c : In-Some-key) → (first_placed c.in-Some.first).lexeme ≡ string c.in-Some-key.key
 key-is c = c.in-Some-key.ensures
 
-first-read : (c : In-Some) (octets : List ℕ) (tokens : List Placed) → HasRead octets tokens c.loop-rows.self.tokens → HasRead octets (tokens ++ first_placed c.in-Some.first ∷ []) c.next_first.new.self
+first-read : (c : In-Some) (octets : List ℕ) (tokens : List Located) → HasRead octets tokens c.loop-rows.self.tokens → HasRead octets (tokens ++ first_placed c.in-Some.first ∷ []) c.next_first.new.self
 first-read c octets tokens h = rw c.in-Some.is at (c.in_ok-first.ensures.read octets tokens h)
 
 pub returns-in_err-row-clause-stands : goal.returns-in_err-row-clause-stands

@@ -1,5 +1,5 @@
 use Rattle.std.proofs.Common.{◌∷◌, ◌++◌, [], refl}
-use Rattle.ostep_lex.specs.Lexeme.{placed}
+use Rattle.ostep_lex.specs.Lexeme.{located}
 use Rattle.ostep_lex.specs.Lexing.{HasTokens}
 use Rattle.ostep_text.specs.Phrase.{a_value}
 use Rattle.ostep_text.specs.Stands.{Stands}
@@ -20,7 +20,7 @@ returns-in-None-clause-read c octets first v m r p f =
 
 pub returns-in-Some-clause-stands : goal.returns-in-Some-clause-stands
 returns-in-Some-clause-stands c octets first v r e =
-    let token = placed c.in-Some.token in
+    let token = located c.in-Some.token in
     let read : HasRead octets (r.reads.all ++ token ∷ []) c.next.new.self = rw c.in-Some.is at (c.in_ok-next.ensures.read octets r.reads.all r.reads.has) in
     c.refuse.ensures octets (r.reads.all ++ token ∷ []) read
     (junk-at r.reads.all token (λ rest. first ∷ r.inside rest) (r.reads.follow (λ rest. rest) (λ rest. refl)) read (λ n. cc n) (v, a_value (r.spells []))

@@ -1,7 +1,7 @@
 use Rattle.std.proofs.Common.{◌≡◌, ◌≤◌, List, ℕ, ◌*◌, ◌∷◌, [], length, refl, sym, ap, subst, arith}
 use Rattle.plist_value.specs.Plist.{no_pairs, scalar, text}
 use Rattle.plist_value.specs.declared.TheConstants.{MAX_DEPTH, MAX_PAYLOAD}
-use Rattle.ostep_lex.specs.Lexeme.{Placed, placed, lexeme_of, text as string, equals}
+use Rattle.ostep_lex.specs.Lexeme.{Located, located, lexeme_of, text as string, equals}
 use Rattle.ostep_lex.specs.Lexing.{HasTokens}
 use Rattle.ostep_text.specs.Begun.{nothing, opened, with_rows, with_key}
 use Rattle.ostep_text.specs.Phrase.{a_string, a_value}
@@ -23,7 +23,7 @@ use Rattle.ostep_text.proofs.reader.Reader.string_first.Goals as goal
 use Rattle.ostep_text.proofs.reader.Reader.string_first.Goals.{In-Some, In_ok-value-in-Equals, In_ok-number-in-Semicolon}
 
 -- the first string and the token after it are read
-two-read : (c : In-Some) (octets : List ℕ) (at : Placed) → HasRead octets (at ∷ []) c.args.self.now.tokens → HasRead octets (at ∷ placed c.in-Some.second ∷ []) c.next.new.self
+two-read : (c : In-Some) (octets : List ℕ) (at : Located) → HasRead octets (at ∷ []) c.args.self.now.tokens → HasRead octets (at ∷ located c.in-Some.second ∷ []) c.next.new.self
 two-read c octets at h = rw c.in-Some.is at (c.in_ok-second.ensures.read octets (at ∷ []) h)
 
 pub returns-in_err-second-clause-stands : goal.returns-in_err-second-clause-stands
@@ -52,17 +52,17 @@ pub returns-in_err-first_key-in-Equals-clause-stands : goal.returns-in_err-first
 returns-in_err-first_key-in-Equals-clause-stands c octets at l s h i =
     let two = two-read (goal.at.returns-in_err-first_key-in-Equals-clause-stands c).In-Some octets at h in
     passed_on (Stands octets) c.in_err-first_key-in-Equals.field-0.0 c.from_residual-in_err-first_key-in-Equals.result c.from_residual-in_err-first_key-in-Equals.ensures.1
-    (c.in_err-first_key-in-Equals.ensures.stands octets at (placed c.in-Some.second) l s two i)
+    (c.in_err-first_key-in-Equals.ensures.stands octets at (located c.in-Some.second) l s two i)
 
 pub returns-in_err-first_key-in-Semicolon-clause-stands : goal.returns-in_err-first_key-in-Semicolon-clause-stands
 returns-in_err-first_key-in-Semicolon-clause-stands c octets at l s h i =
     let two = two-read (goal.at.returns-in_err-first_key-in-Semicolon-clause-stands c).In-Some octets at h in
     passed_on (Stands octets) c.in_err-first_key-in-Semicolon.field-0.0 c.from_residual-in_err-first_key-in-Semicolon.result c.from_residual-in_err-first_key-in-Semicolon.ensures.1
-    (c.in_err-first_key-in-Semicolon.ensures.stands octets at (placed c.in-Some.second) l s two i)
+    (c.in_err-first_key-in-Semicolon.ensures.stands octets at (located c.in-Some.second) l s two i)
 
 pub returns-in_err-value-in-Equals-clause-stands : goal.returns-in_err-value-in-Equals-clause-stands
 returns-in_err-value-in-Equals-clause-stands c octets at l s h i =
-    let second = placed c.in-Some.second in
+    let second = located c.in-Some.second in
     let two = two-read (goal.at.returns-in_err-value-in-Equals-clause-stands c).In-Some octets at h in
     let keyed = c.first_key.new.self in
     let three : HasRead octets (at ∷ second ∷ []) keyed.tokens = same-read two c.in_ok-first_key-in-Equals.ensures.tokens in
@@ -78,7 +78,7 @@ returns-in_err-number-in-Equals-clause-stands c octets at l s h i =
 
 pub returns-in_err-number-in-Semicolon-clause-stands : goal.returns-in_err-number-in-Semicolon-clause-stands
 returns-in_err-number-in-Semicolon-clause-stands c octets at l s h i =
-    let second = placed c.in-Some.second in
+    let second = located c.in-Some.second in
     let two = two-read (goal.at.returns-in_err-number-in-Semicolon-clause-stands c).In-Some octets at h in
     let keyed = c.first_key-in-Semicolon.new.self in
     let three : HasRead octets (at ∷ second ∷ []) keyed.tokens = same-read two c.in_ok-first_key-in-Semicolon.ensures.tokens in
@@ -90,7 +90,7 @@ returns-in_err-number-in-Semicolon-clause-stands c octets at l s h i =
 
 pub returns-in_err-charge-in_default-kind-clause-stands : goal.returns-in_err-charge-in_default-kind-clause-stands
 returns-in_err-charge-in_default-kind-clause-stands c octets at l s h i =
-    let second = placed c.in-Some.second in
+    let second = located c.in-Some.second in
     let two = two-read (goal.at.returns-in_err-charge-in_default-kind-clause-stands c).In-Some octets at h in
     let few : c.payload.result ≤ 2 * length c.args.key = omega (arith, c.payload.ensures.payload) in
     passed_on (Stands octets) c.in_err-charge-in_default-kind.field-0.0 c.from_residual-in_err-charge-in_default-kind.result c.from_residual-in_err-charge-in_default-kind.ensures.1
@@ -99,7 +99,7 @@ returns-in_err-charge-in_default-kind-clause-stands c octets at l s h i =
 
 pub returns-in_ok-charge-in_default-kind-clause-stands : goal.returns-in_ok-charge-in_default-kind-clause-stands
 returns-in_ok-charge-in_default-kind-clause-stands c octets at l s h i =
-    let second = placed c.in-Some.second in
+    let second = located c.in-Some.second in
     let two = two-read (goal.at.returns-in_ok-charge-in_default-kind-clause-stands c).In-Some octets at h in
     let three = same-read two c.in_ok-charge-in_default-kind.ensures.tokens in
     c.refuse.ensures octets (at ∷ second ∷ []) three
@@ -108,10 +108,10 @@ returns-in_ok-charge-in_default-kind-clause-stands c octets at l s h i =
     (key-ended Machine.bare c.in-Some.second.kind c.in_default-kind.not-Equals c.in_default-kind.not-Semicolon)))
 
 -- the first row, with a value
-row-equals : (c : In_ok-value-in-Equals) (octets : List ℕ) (at : Placed) → at.lexeme ≡ string c.args.key → HasRead octets (at ∷ []) c.args.self.now.tokens
+row-equals : (c : In_ok-value-in-Equals) (octets : List ℕ) (at : Located) → at.lexeme ≡ string c.args.key → HasRead octets (at ∷ []) c.args.self.now.tokens
     → IsLeft c.args.self.now.left MAX_DEPTH nothing → FirstRow octets c.args.key c.in_ok-value-in-Equals.ensures.built.meant c.row_value.new.self
 row-equals c octets at l h i =
-    let second = placed c.in-Some.second in
+    let second = located c.in-Some.second in
     let two = two-read (goal.at.In_ok-value-in-Equals c).In-Some octets at h in
     let keyed = c.in_ok-first_key-in-Equals.ensures in
     let b = c.in_ok-value-in-Equals.ensures.built in
@@ -135,7 +135,7 @@ returns-in_ok-value-in-Equals-clause-stands c octets at l s h i =
     c.bare_table.ensures.stands octets first.left b.meant (row-spelled (goal.at.returns-in_ok-value-in-Equals-clause-stands c).In_ok-value-in-Equals) first.is_left first.taken first.row
 
 -- the first row, with its key alone
-row-semicolon : (c : In_ok-number-in-Semicolon) (octets : List ℕ) (at : Placed) → at.lexeme ≡ string c.args.key → HasRead octets (at ∷ []) c.args.self.now.tokens
+row-semicolon : (c : In_ok-number-in-Semicolon) (octets : List ℕ) (at : Located) → at.lexeme ≡ string c.args.key → HasRead octets (at ∷ []) c.args.self.now.tokens
     → IsLeft c.args.self.now.left MAX_DEPTH nothing → FirstRow octets c.args.key (scalar (text c.args.key)) c.string-in-Semicolon.new.self
 row-semicolon c octets at l h i =
     let two = two-read (goal.at.In_ok-number-in-Semicolon c).In-Some octets at h in
@@ -143,7 +143,7 @@ row-semicolon c octets at l h i =
     let alone = c.in_ok-number-in-Semicolon.ensures in
     first-row c.args.key (scalar (text c.args.key)) c.string-in-Semicolon.new.self i keyed.spent
     (scalar-taken (text c.args.key) (spends-same alone.spent (ap (λ us. 2 * length us) c.text-in-Semicolon.ensures.text)) alone.deep keyed.valid) keyed.valid
-    (alone-read [] at (placed c.in-Some.second) c.args.key l (ap lexeme_of c.in-Semicolon.is) (same-read (same-read two keyed.tokens) alone.tokens))
+    (alone-read [] at (located c.in-Some.second) c.args.key l (ap lexeme_of c.in-Semicolon.is) (same-read (same-read two keyed.tokens) alone.tokens))
 
 alone-spelled : (c : In_ok-number-in-Semicolon) → SpellsRow (objects c.string-in-Semicolon.new.self.draft) c.args.key (c.in_ok-number-in-Semicolon.number, c.in_ok-number-in-Semicolon.number) (scalar (text c.args.key))
 alone-spelled c =

@@ -1,5 +1,5 @@
 use Rattle.std.proofs.Common.{◌≡◌, ◌∷◌, [], true, false, refl, sym, ap, ◌∙◌}
-use Rattle.ostep_lex.specs.Lexeme.{placed, lexeme_of}
+use Rattle.ostep_lex.specs.Lexeme.{located, lexeme_of}
 use Rattle.ostep_text.specs.Begun.{nothing, begins_value}
 use Rattle.ostep_text.specs.Stands.{Stands}
 use Rattle.ostep_text.specs.Machine
@@ -12,7 +12,7 @@ use Rattle.ostep_text.proofs.reader.Reader.value_first.Goals as goal
 
 pub returns-then-not-begins_value-clause-stands : goal.returns-then-not-begins_value-clause-stands
 returns-then-not-begins_value-clause-stands c octets h i f =
-    let first = placed c.args.first in
+    let first = located c.args.first in
     let none : begins_value (first.lexeme ∷ []) ≡ false = sym c.begins_value.ensures ∙ c.if-not-begins_value.true in
     c.refuse.ensures octets (first ∷ []) h
     (expected-front first h (λ rest. ap (λ s. runs s rest) (f ∙ none-begins Machine.top c.args.first.kind none) ∙ stays-dead rest))

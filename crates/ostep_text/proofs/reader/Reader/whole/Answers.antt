@@ -2,7 +2,7 @@ use Rattle.std.proofs.Common.{◌≡◌, ◌∷◌, [], refl, sym, ap, ◌∙◌
 use Rattle.std.proofs.lemmas.Result.{IfOk-weaker}
 use Rattle.plist_value.specs.Plist.{table, no_pairs}
 use Rattle.plist_draft.specs.View.{objects}
-use Rattle.ostep_lex.specs.Lexeme.{placed, lexeme_of, text as string}
+use Rattle.ostep_lex.specs.Lexeme.{located, lexeme_of, text as string}
 use Rattle.ostep_lex.specs.Lexing.{HasTokens}
 use Rattle.ostep_text.specs.Stands.{Stands}
 use Rattle.ostep_text.specs.Reading.{HasRead}
@@ -14,7 +14,7 @@ use Rattle.ostep_text.proofs.reader.Reader.whole.Goals as goal
 use Rattle.ostep_text.proofs.reader.Reader.whole.Goals.{In-Some}
 
 -- the first token is read
-one-read : (c : In-Some) (octets : List ℕ) → HasRead octets [] c.args.self.now.tokens → HasRead octets (placed c.in-Some.first ∷ []) c.next.new.self
+one-read : (c : In-Some) (octets : List ℕ) → HasRead octets [] c.args.self.now.tokens → HasRead octets (located c.in-Some.first ∷ []) c.next.new.self
 one-read c octets h = rw c.in-Some.is at (c.in_ok-first.ensures.read octets [] h)
 
 pub returns-in_err-first-clause-stands : goal.returns-in_err-first-clause-stands
@@ -33,12 +33,12 @@ returns-in_default-clause-stands c octets h i = no-memory octets c.put_table.res
 pub returns-in-Text-clause-read : goal.returns-in-Text-clause-read
 returns-in-Text-clause-read c octets h i =
     let is : c.owned.result ≡ c.in-Text.text = rw c.in-Text.is at c.owned.ensures in
-    c.string_first.ensures.read octets (placed c.in-Some.first) (ap lexeme_of c.in-Text.is ∙ ap string (sym is)) refl (one-read (goal.at.returns-in-Text-clause-read c).In-Some octets h) i
+    c.string_first.ensures.read octets (located c.in-Some.first) (ap lexeme_of c.in-Text.is ∙ ap string (sym is)) refl (one-read (goal.at.returns-in-Text-clause-read c).In-Some octets h) i
 
 pub returns-in-Text-clause-stands : goal.returns-in-Text-clause-stands
 returns-in-Text-clause-stands c octets h i =
     let is : c.owned.result ≡ c.in-Text.text = rw c.in-Text.is at c.owned.ensures in
-    c.string_first.ensures.stands octets (placed c.in-Some.first) (ap lexeme_of c.in-Text.is ∙ ap string (sym is)) refl (one-read (goal.at.returns-in-Text-clause-stands c).In-Some octets h) i
+    c.string_first.ensures.stands octets (located c.in-Some.first) (ap lexeme_of c.in-Text.is ∙ ap string (sym is)) refl (one-read (goal.at.returns-in-Text-clause-stands c).In-Some octets h) i
 
 -- if the first token is not a string
 pub returns-in_default-kind-clause-read : goal.returns-in_default-kind-clause-read

@@ -1,5 +1,5 @@
 use Rattle.std.proofs.Common.{◌∷◌, ◌++◌, []}
-use Rattle.ostep_lex.specs.Lexeme.{placed}
+use Rattle.ostep_lex.specs.Lexeme.{located}
 use Rattle.ostep_lex.specs.Lexing.{HasTokens}
 use Rattle.ostep_text.specs.Stands.{Stands}
 use Rattle.ostep_text.specs.Reading.{HasRead}
@@ -13,7 +13,7 @@ returns-in_err-token-clause-stands c octets tokens whole b h o =
 
 pub returns-in-Some-clause-read : goal.returns-in-Some-clause-read
 returns-in-Some-clause-read c octets tokens h =
-    let read : HasRead octets (tokens ++ placed c.in-Some.token ∷ []) c.next.new.self = rw c.in-Some.is at (c.in_ok-token.ensures.read octets tokens h) in
+    let read : HasRead octets (tokens ++ located c.in-Some.token ∷ []) c.next.new.self = rw c.in-Some.is at (c.in_ok-token.ensures.read octets tokens h) in
     read
 
 pub returns-in-None-clause-stands : goal.returns-in-None-clause-stands

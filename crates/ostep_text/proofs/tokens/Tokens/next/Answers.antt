@@ -1,5 +1,5 @@
 use Rattle.std.proofs.Common.{◌∷◌, ◌++◌, []}
-use Rattle.ostep_lex.specs.Lexeme.{placed}
+use Rattle.ostep_lex.specs.Lexeme.{located}
 use Rattle.ostep_lex.specs.Cursor.{IsAfter}
 use Rattle.ostep_text.specs.Fault.{of_tokens}
 use Rattle.ostep_text.specs.Stands.{Stands}
@@ -14,5 +14,5 @@ returns-in_err-token-clause-stands c octets tokens h =
 
 pub returns-in-Some-clause-read : goal.returns-in-Some-clause-read
 returns-in-Some-clause-read c octets tokens h =
-    let after : IsAfter octets (tokens ++ placed c.in-Some.token ∷ []) c.in-Some.after = rw c.in-Some.is at (c.in_ok-token.ensures.ok octets tokens h.after) in
+    let after : IsAfter octets (tokens ++ located c.in-Some.token ∷ []) c.in-Some.after = rw c.in-Some.is at (c.in_ok-token.ensures.ok octets tokens h.after) in
     record { after = after; ends = h.ends }

@@ -3,7 +3,7 @@ use Rattle.ostep_lex.specs.Lexeme.{placed_plain}
 use Rattle.ostep_lex.specs.Cursor.{IsAfter}
 use Rattle.ostep_text.specs.Stands.{Stands}
 use Rattle.ostep_text.specs.Reading.{HasRead}
-use Rattle.ostep_lex.specs.Lexeme.{placed}
+use Rattle.ostep_lex.specs.Lexeme.{located}
 use Rattle.ostep_lex.proofs.Exits.{passed_on}
 use Rattle.ostep_text.proofs.tokens.Tokens.next_first.Goals as goal
 
@@ -18,5 +18,5 @@ returns-in_err-token-clause-stands c octets tokens h =
 
 pub returns-in-Some-2-clause-read : goal.returns-in-Some-2-clause-read
 returns-in-Some-2-clause-read c octets tokens h =
-    let read : HasRead octets (tokens ++ placed c.in-Some-2.token ∷ []) c.next.new.self = rw c.in-Some-2.is at (c.in_ok-token.ensures.read octets tokens h) in
+    let read : HasRead octets (tokens ++ located c.in-Some-2.token ∷ []) c.next.new.self = rw c.in-Some-2.is at (c.in_ok-token.ensures.read octets tokens h) in
     read

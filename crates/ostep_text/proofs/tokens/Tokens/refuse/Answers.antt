@@ -1,5 +1,5 @@
 use Rattle.std.proofs.Common.{ℕ, List, ◌∷◌, ◌++◌, [], subst, sym}
-use Rattle.ostep_lex.specs.Lexeme.{Placed, placed}
+use Rattle.ostep_lex.specs.Lexeme.{Located, located}
 use Rattle.ostep_lex.specs.Lexing.{HasTokens}
 use Rattle.ostep_lex.specs.Cursor.{IsAfter}
 use Rattle.ostep_text.specs.Stands.{Stands}
@@ -20,11 +20,11 @@ returns-in-Err c octets tokens h s =
     subst (λ f. Stands octets f) (sym c.from.ensures) (tokens-stand octets c.in-Err.earlier (c.in-Err.ensures.stands octets m.0 m.1))
 
 -- one more token is ahead of the cursor
-one-more : (c : In-Ok-Some) (octets : List ℕ) (tokens : List Placed) → HasRead octets tokens c.args.self.now → (more : List Placed) × IsAfter octets more c.in-Ok-Some.after
+one-more : (c : In-Ok-Some) (octets : List ℕ) (tokens : List Located) → HasRead octets tokens c.args.self.now → (more : List Located) × IsAfter octets more c.in-Ok-Some.after
 one-more c octets tokens h =
     let m = c.loop-after.invariant octets tokens h in
-    let after : IsAfter octets (m.0 ++ placed c.in-Ok-Some.field-0-0-0 ∷ []) c.in-Ok-Some.after = rw c.in-Ok-Some.field-0-is at (c.in-Ok-Some.ensures.ok octets m.0 m.1) in
-    (m.0 ++ placed c.in-Ok-Some.field-0-0-0 ∷ [], after)
+    let after : IsAfter octets (m.0 ++ located c.in-Ok-Some.field-0-0-0 ∷ []) c.in-Ok-Some.after = rw c.in-Ok-Some.field-0-is at (c.in-Ok-Some.ensures.ok octets m.0 m.1) in
+    (m.0 ++ located c.in-Ok-Some.field-0-0-0 ∷ [], after)
 
 pub loop-after-preserved-in-Ok-Some : goal.loop-after-preserved-in-Ok-Some
 loop-after-preserved-in-Ok-Some c = one-more (goal.at.loop-after-preserved-in-Ok-Some c).In-Ok-Some

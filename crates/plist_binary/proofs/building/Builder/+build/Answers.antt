@@ -16,7 +16,7 @@ use Rattle.plist_object.specs.Spelled.{SpellItems}
 use Rattle.plist_object.specs.Views.{octets_of, numbers_of}
 use Rattle.plist_binary.specs.Building.{AreSpelled, IsSpelled, PairsSpelled}
 use Rattle.plist_binary.specs.declared.dictionary.Key.{Key}
-use Rattle.plist_binary.specs.Keys.{units_at, pair_at}
+use Rattle.plist_binary.specs.Keys.{key_units, pair_at}
 use Rattle.plist_binary.specs.Readings.{texts}
 use Rattle.plist_binary.proofs.BuildSteps.{HoldsSome-within, AllSpellWithin-list, SpellsPairsWithin-table, AllSpellTexts-keys, AllSpellWithin-values, IsSpelled-table, AreSpelled-next, distinct_texts, valid_texts}
 use Rattle.plist_value.proofs.Items.{some_depth}
@@ -41,9 +41,9 @@ keys_moved t c =
     let seen = seen_sorted c.in_ok-keys.keys.len keys c.as_mut_slice.result.now after _ (omega (arith, c.in_ok-keys.keys.ok.0)) c.as_mut_slice.ensures.value c.sort-distinct.ensures.moved refl in
     subst (λ (xs : List Key). IsPermutation keys xs) (sym seen) (subst (λ (xs : List Key). IsPermutation xs after) c.as_mut_slice.ensures.value c.sort-distinct.ensures.moved)
 
-as_many : (f refs others : List ℕ) (keys : List Key) (values : List Value) → length refs ≡ length others → SpellItems f refs (texts (map units_at keys)) → SpellItems f others (view_items values) → length keys ≡ length values
+as_many : (f refs others : List ℕ) (keys : List Key) (values : List Value) → length refs ≡ length others → SpellItems f refs (texts (map key_units keys)) → SpellItems f others (view_items values) → length keys ≡ length values
 as_many f refs others keys values long spell_keys spell_values =
-    omega (arith, length-texts f refs (map units_at keys) spell_keys, length-items f others (map view values) spell_values, length-map keys units_at, length-map values view)
+    omega (arith, length-texts f refs (map key_units keys) spell_keys, length-items f others (map view values) spell_values, length-map keys key_units, length-map values view)
 
 pub items-loop-i-preserved : goal.items-loop-i-preserved
 items-loop-i-preserved t c =
@@ -59,8 +59,8 @@ pairs-keys-requires t c =
 
 pub pairs-prove-unreachable-requires : goal.pairs-prove-unreachable-requires
 pairs-prove-unreachable-requires t c =
-    let distinct = distinct_texts (octets_of c.args.self.now.file) (numbers_of c.args.keys) (numbers_of c.args.values) c.args.levels (map units_at c.in_ok-keys.keys.items) c.requires c.in_ok-keys.ensures.texts in
-    let told = c.sort-distinct.ensures.distinct.1 (subst (λ (xs : List Key). IsDistinct same_key (map units_at xs)) (sym c.as_mut_slice.ensures.value) distinct) in
+    let distinct = distinct_texts (octets_of c.args.self.now.file) (numbers_of c.args.keys) (numbers_of c.args.values) c.args.levels (map key_units c.in_ok-keys.keys.items) c.requires c.in_ok-keys.ensures.texts in
+    let told = c.sort-distinct.ensures.distinct.1 (subst (λ (xs : List Key). IsDistinct same_key (map key_units xs)) (sym c.as_mut_slice.ensures.value) distinct) in
     let said = c.if-prove.true in
     cc
 
@@ -89,11 +89,11 @@ pairs-returns t c =
     let f = octets_of c.args.self.now.file in
     let keys = numbers_of c.args.keys in
     let values = numbers_of c.args.values in
-    let us = map units_at c.in_ok-keys.keys.items in
+    let us = map key_units c.in_ok-keys.keys.items in
     let sorted = take c.in_ok-keys.keys.len (c.sort-distinct.new.keys ++ drop (length c.sort-distinct.new.keys) c.in_ok-keys.keys.items) in
     let moved = keys_moved t (goal.at.pairs-returns t c).After-sort-distinct in
     let both = as_many f keys values c.in_ok-keys.keys.items c.in_ok-values.values.items c.requires.long c.in_ok-keys.ensures.texts.spell c.in_ok-values.ensures.spell in
-    let many : length us ≡ length (map view c.in_ok-values.values.items) = omega (arith, both, length-map c.in_ok-keys.keys.items units_at, length-map c.in_ok-values.values.items view) in
+    let many : length us ≡ length (map view c.in_ok-values.values.items) = omega (arith, both, length-map c.in_ok-keys.keys.items key_units, length-map c.in_ok-values.values.items view) in
     IfOk_both c.table.result (λ pairs. pairs.entries ≡ map (pair_at c.in_ok-values.values.items) sorted) (λ pairs. IsStrictlySortedBy (slice_cmp nat_cmp) (keys_of pairs.entries)) (λ pairs. PairsSpelled f keys values (view_pairs pairs.entries))
     (λ pairs is ascend. PairsSpelled-entries f keys values us c.in_ok-values.values.items pairs.entries c.in_ok-keys.ensures.texts.spell c.in_ok-values.ensures.spell (valid_texts f keys values c.args.levels us c.requires c.in_ok-keys.ensures.texts) c.in_ok-values.ensures.valid many (pairs_moved c.in_ok-keys.keys.items sorted c.in_ok-values.values.items pairs.entries both c.in_ok-keys.ensures.placed moved is) ascend)
     c.table.ensures.pairs c.table.ensures.ordered

@@ -3,7 +3,7 @@ use Rattle.std.proofs.lemmas.List.{map-append}
 use Rattle.plist_value.specs.Texts.{units_of}
 use Rattle.plist_object.specs.Views.{octets_of, numbers_of}
 use Rattle.plist_binary.specs.Building.{AreTexts}
-use Rattle.plist_binary.specs.Keys.{units_at, AreInPlace}
+use Rattle.plist_binary.specs.Keys.{key_units, AreIndexed}
 use Rattle.plist_binary.proofs.BuildSteps.{AreTexts-next}
 use Rattle.plist_binary.proofs.Placed.{AreInPlace-push}
 use Rattle.plist_binary.proofs.building.Builder.keys.Goals as goal
@@ -12,9 +12,9 @@ pub loop-i-preserved : goal.loop-i-preserved
 loop-i-preserved c =
     let f = octets_of c.args.self.now.file in
     let refs = numbers_of c.args.refs in
-    let texts = AreTexts-next f refs c.loop-i.i c.get.result (map units_at c.loop-i.keys.items) (units_of c.text-text.result) (omega arith) c.get.ensures c.loop-i.invariant.texts c.text-text.ensures in
-    let pushed : map units_at c.push.new.self.items ≡ map units_at c.loop-i.keys.items ++ units_of c.text-text.result ∷ [] = ap (map units_at) c.in_ok-push.ensures.items ∙ map-append units_at c.loop-i.keys.items _ in
+    let texts = AreTexts-next f refs c.loop-i.i c.get.result (map key_units c.loop-i.keys.items) (units_of c.text-text.result) (omega arith) c.get.ensures c.loop-i.invariant.texts c.text-text.ensures in
+    let pushed : map key_units c.push.new.self.items ≡ map key_units c.loop-i.keys.items ++ units_of c.text-text.result ∷ [] = ap (map key_units) c.in_ok-push.ensures.items ∙ map-append key_units c.loop-i.keys.items _ in
     record {
       texts = subst (λ (keys : List (List ℕ)). AreTexts f (take (c.loop-i.i + 1) refs) keys) (sym pushed) texts;
-      placed = subst AreInPlace (sym c.in_ok-push.ensures.items) (AreInPlace-push c.loop-i.keys.items _ (omega (arith, c.len-place.ensures, c.loop-i.keys.ok.0)) c.loop-i.invariant.placed);
+      placed = subst AreIndexed (sym c.in_ok-push.ensures.items) (AreInPlace-push c.loop-i.keys.items _ (omega (arith, c.len-index.ensures, c.loop-i.keys.ok.0)) c.loop-i.invariant.placed);
     }

@@ -1,7 +1,7 @@
 use Rattle.std.proofs.Common.{◌∙◌, sym, subst, arith}
 use Rattle.plist_value.specs.Budget.{Spends}
-use Rattle.plist_binary.specs.declared.memos.Memo.{Memo}
-use Rattle.plist_binary.specs.Memos.{IsState}
+use Rattle.plist_binary.specs.declared.states.ValueSize.{ValueSize}
+use Rattle.plist_binary.specs.States.{IsState}
 use Rattle.plist_binary.proofs.PassSteps.{ReadsKey-known}
 use Rattle.plist_binary.proofs.progress.Progress.recall_key.Goals as goal
 
@@ -11,5 +11,5 @@ returns c = λ f path are.
     let left = c.args.self.now.left in
     let rest = c.in_ok-rest.rest in
     let known = subst (IsState f path object) (sym c.state_at.ensures ∙ c.in-Key.is) (are.each object) in
-    let spent = subst (λ (memo : Memo). Spends left memo.nodes memo.payload rest) c.of_key.ensures c.in_ok-rest.ensures in
+    let spent = subst (λ (size : ValueSize). Spends left size.nodes size.payload rest) c.of_key.ensures c.in_ok-rest.ensures in
     ReadsKey-known f object c.args.levels c.in-Key.payload left rest known (omega arith) spent

@@ -1,12 +1,12 @@
 use Rattle.std.proofs.Common.{◌≡◌, ◌<◌, ◌∷◌, ◌*◌, Ok, arith, refl, rules, subst, ap, ◌∙◌, length}
 use Rattle.plist_value.specs.Plist.{scalar, text}
 use Rattle.plist_value.specs.Texts.{units_of}
-use Rattle.plist_object.specs.Objects.{Held, holds_scalar, IsHeld}
+use Rattle.plist_object.specs.Objects.{Content, holds_scalar, IsContent}
 use Rattle.plist_object.specs.Places.{what_holds}
 use Rattle.plist_object.specs.Views.{octets_of, held_of}
-use Rattle.plist_binary.specs.declared.memos.State.{State}
-use Rattle.plist_binary.specs.declared.memos.State.TheVariants.{Key}
-use Rattle.plist_binary.specs.Memos.{IsMarked}
+use Rattle.plist_binary.specs.declared.states.ObjectState.{ObjectState}
+use Rattle.plist_binary.specs.declared.states.ObjectState.TheVariants.{Key}
+use Rattle.plist_binary.specs.States.{IsRecorded}
 use Rattle.plist_binary.specs.declared.fault.BinaryFault.TheVariants.{TooMuchPayload}
 use Rattle.plist_binary.specs.Paths.{containers_of}
 use Rattle.plist_binary.specs.Readings.{RefusesKey}
@@ -60,7 +60,7 @@ returns-clause-read c =
     let f = octets_of c.args.self.now.file in
     let units = units_of c.in-Some-text_in.key in
     let reads : what_holds f c.args.object ≡ Ok (holds_scalar (text units)) = c.in_ok-enter.ensures.held ∙ ap Ok c.in-Some-text_in.ensures.text in
-    let valid = subst (λ (h : Held). IsHeld h) c.in-Some-text_in.ensures.text c.in_ok-enter.ensures.valid in
+    let valid = subst (λ (h : Content). IsContent h) c.in-Some-text_in.ensures.text c.in_ok-enter.ensures.valid in
     let spent = c.in_ok-take_payload.ensures.ok in
     record {
       units = units;
@@ -77,9 +77,9 @@ returns-clause-progress c =
     let states = c.enter.new.progress.states.items in
     let after = c.mark.new.states.items in
     let read = returns-clause-read c in
-    let size = c.of-memo.result.payload in
-    let known = IsKey-read f object c.args.levels c.args.progress.now.left c.take_payload.new.left read.units size read.reads c.of-memo.ensures.payload in
-    let marked = subst (λ (state : State). IsMarked states object state after) c.key.ensures c.in_ok-mark.ensures in
+    let size = c.of-size.result.payload in
+    let known = IsKey-read f object c.args.levels c.args.progress.now.left c.take_payload.new.left read.units size read.reads c.of-size.ensures.payload in
+    let marked = subst (λ (state : ObjectState). IsRecorded states object state after) c.key.ensures c.in_ok-mark.ensures in
     record {
       states = AreStates-visited f path states after object (Key size) marked known c.in_ok-enter.ensures.new (AreStates-but f path states object so_far.states);
       texts = HaveTexts-marked f states after object (Key size) _ marked (λ _ _. HasText-of f object (scalar (text read.units)) read.reads.valid read.reads.spells refl) so_far.texts;

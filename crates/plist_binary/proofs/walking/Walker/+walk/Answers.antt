@@ -8,9 +8,9 @@ use Rattle.plist_value.specs.Writable.{is_writable_scalar}
 use Rattle.plist_object.specs.Objects.{holds_scalar, holds_list, holds_table}
 use Rattle.plist_object.specs.Places.{what_holds}
 use Rattle.plist_object.specs.Views.{octets_of, numbers_of}
-use Rattle.plist_binary.specs.declared.memos.State.{State}
-use Rattle.plist_binary.specs.declared.memos.State.TheVariants.{Open, Passed}
-use Rattle.plist_binary.specs.Memos.{HasText, HaveTexts, IsMarked, IsVisited}
+use Rattle.plist_binary.specs.declared.states.ObjectState.{ObjectState}
+use Rattle.plist_binary.specs.declared.states.ObjectState.TheVariants.{Open, Passed}
+use Rattle.plist_binary.specs.States.{HasText, HaveTexts, IsRecorded, IsVisited}
 use Rattle.plist_binary.specs.declared.fault.BinaryFault.TheVariants.{BadReference, TooMuchPayload}
 use Rattle.plist_binary.specs.Passing.{PassesItems}
 use Rattle.plist_binary.specs.Paths.{containers_of}
@@ -19,7 +19,7 @@ use Rattle.plist_binary.proofs.Beginning.{AreNext-items, AreNext-leads, AreNext-
 use Rattle.plist_binary.proofs.ItemSteps.{Contains-at, RefusesItems-next, RefusesItems-none}
 use Rattle.plist_binary.proofs.Making.{IsWithinLimits-spent, IsProgress-last, Refuses-payload, Refuses-list, Refuses-table, AreStates-open, AreStates-visited, AreStates-but}
 use Rattle.plist_binary.proofs.Entering.{length-values}
-use Rattle.plist_binary.proofs.PassSteps.{IsMemo-passed, Passes-from, Passes-scalar, Passes-list, Passes-table, PassesItems-next, PassesPairs-sorted}
+use Rattle.plist_binary.proofs.PassSteps.{IsValueSize-passed, Passes-from, Passes-scalar, Passes-list, Passes-table, PassesItems-next, PassesPairs-sorted}
 use Rattle.plist_binary.proofs.TableSteps.{RefusesPairs-values}
 use Rattle.plist_binary.proofs.Writable.{HasText-of, HaveTexts-all, HaveTexts-marked}
 use Rattle.plist_binary.proofs.walking.Walker.+walk.Goals as goal
@@ -151,8 +151,8 @@ items-returns-in_err-object-clause-refused t c =
     let refused : RefusesItems f refs c.args.levels c.args.progress.now.left (BadReference c.args.container) = RefusesItems-none f before refs c.args.container c.loop-i.i c.get.result c.args.levels c.args.progress.now.left c.args.self.now.visitor.laid (AreNext-leads f before c.args.container refs c.args.progress.now.left c.requires.next) (Refers-next f before c.args.container c.get.result refs c.args.progress.now.left c.requires.next (Contains-at refs c.loop-i.i c.get.result (omega arith) c.get.ensures)) (omega arith) c.get.ensures c.in_err-object.ensures.above.1 in
     search rules
 
-pub items-pass-requires : goal.items-pass-requires
-items-pass-requires t c =
+pub items-validate-requires : goal.items-validate-requires
+items-validate-requires t c =
     let f = octets_of c.args.self.now.visitor.file in
     let refs = numbers_of c.args.refs in
     let begun = IsBegun-next f (containers_of c.args.before.now) c.args.container refs c.loop-i.i c.in_ok-object.object c.args.levels c.args.progress.now.left c.loop-i.progress.left (items_of c.loop-i.invariant.passed.values) c.requires.next c.requires.depth (omega arith) (c.in_ok-object.ensures.same ∙ c.get.ensures) c.loop-i.invariant.passed.reads in
@@ -169,34 +169,34 @@ pub items-loop-i-preserved : goal.items-loop-i-preserved
 items-loop-i-preserved t c =
     let f = octets_of c.args.self.now.visitor.file in
     let refs = numbers_of c.args.refs in
-    let passed = PassesItems-next f refs c.loop-i.i c.in_ok-object.object c.args.levels c.args.progress.now.left c.loop-i.progress.left c.pass.new.progress.left c.loop-i.deepest c.in_ok-deep.deep (omega arith) (c.in_ok-object.ensures.same ∙ c.get.ensures) c.in_ok-object.ensures.below c.loop-i.invariant.passed c.in_ok-deep.ensures.passed in
+    let passed = PassesItems-next f refs c.loop-i.i c.in_ok-object.object c.args.levels c.args.progress.now.left c.loop-i.progress.left c.validate.new.progress.left c.loop-i.deepest c.in_ok-deep.deep (omega arith) (c.in_ok-object.ensures.same ∙ c.get.ensures) c.in_ok-object.ensures.below c.loop-i.invariant.passed c.in_ok-deep.ensures.passed in
     record {
-      passed = subst (λ (deepest : ℕ). PassesItems f (take (c.loop-i.i + 1) refs) c.args.levels c.args.progress.now.left deepest c.pass.new.progress.left c.args.progress.now.writable c.pass.new.progress.writable) (sym c.deeper-deepest.ensures) passed;
+      passed = subst (λ (deepest : ℕ). PassesItems f (take (c.loop-i.i + 1) refs) c.args.levels c.args.progress.now.left deepest c.validate.new.progress.left c.args.progress.now.writable c.validate.new.progress.writable) (sym c.deeper-deepest.ensures) passed;
       progress = c.in_ok-deep.ensures.progress;
     }
 
 pub walk-returns-clause-progress : goal.walk-returns-clause-progress
 walk-returns-clause-progress t c =
     let f = octets_of c.args.self.now.visitor.file in
-    let memo = c.of-memo.result in
-    let known = IsMemo-passed f c.args.object c.args.levels c.args.progress.now.left c.content.new.progress.left c.in_ok-deep.deep memo c.in_ok-deep.ensures.passed c.of-memo.ensures.nodes c.of-memo.ensures.payload c.of-memo.ensures.depth in
+    let size = c.of-size.result in
+    let known = IsValueSize-passed f c.args.object c.args.levels c.args.progress.now.left c.content.new.progress.left c.in_ok-deep.deep size c.in_ok-deep.ensures.passed c.of-size.ensures.nodes c.of-size.ensures.payload c.of-size.ensures.depth in
     let so_far = c.in_ok-deep.ensures.progress in
     let passed = c.in_ok-deep.ensures.passed in
-    let mark = subst (λ (state : State). IsMarked c.content.new.progress.states.items c.args.object state c.mark.new.states.items) c.passed.ensures c.in_ok-mark.ensures in
-    let has_text : c.content.new.progress.writable ≡ true → IsVisited (Passed memo.depth memo.nodes memo.payload) → HasText f c.args.object = λ all _. HasText-of f c.args.object passed.value passed.reads.valid passed.reads.spells (and_parts _ _ (sym passed.writable ∙ all)).1 in
+    let mark = subst (λ (state : ObjectState). IsRecorded c.content.new.progress.states.items c.args.object state c.mark.new.states.items) c.passed.ensures c.in_ok-mark.ensures in
+    let has_text : c.content.new.progress.writable ≡ true → IsVisited (Passed size.depth size.nodes size.payload) → HasText f c.args.object = λ all _. HasText-of f c.args.object passed.value passed.reads.valid passed.reads.spells (and_parts _ _ (sym passed.writable ∙ all)).1 in
     record {
-      states = AreStates-visited f (containers_of c.args.path.now) c.content.new.progress.states.items c.mark.new.states.items c.args.object (Passed memo.depth memo.nodes memo.payload) mark known c.in_ok-deep.ensures.new so_far.states;
-      texts = HaveTexts-marked f c.content.new.progress.states.items c.mark.new.states.items c.args.object (Passed memo.depth memo.nodes memo.payload) _ mark has_text so_far.texts;
+      states = AreStates-visited f (containers_of c.args.path.now) c.content.new.progress.states.items c.mark.new.states.items c.args.object (Passed size.depth size.nodes size.payload) mark known c.in_ok-deep.ensures.new so_far.states;
+      texts = HaveTexts-marked f c.content.new.progress.states.items c.mark.new.states.items c.args.object (Passed size.depth size.nodes size.payload) _ mark has_text so_far.texts;
       last = so_far.last;
       ready = so_far.ready;
       within = so_far.within;
     }
 
-pub walk-of-memo-requires-clause-nodes_left : goal.walk-of-memo-requires-clause-nodes_left
-walk-of-memo-requires-clause-nodes_left t c = omega (arith, c.in_ok-deep.ensures.passed.reads.spent.nodes_left)
+pub walk-of-size-requires-clause-nodes_left : goal.walk-of-size-requires-clause-nodes_left
+walk-of-size-requires-clause-nodes_left t c = omega (arith, c.in_ok-deep.ensures.passed.reads.spent.nodes_left)
 
-pub walk-of-memo-requires-clause-payload_left : goal.walk-of-memo-requires-clause-payload_left
-walk-of-memo-requires-clause-payload_left t c = omega (arith, c.in_ok-deep.ensures.passed.reads.spent.payload_left)
+pub walk-of-size-requires-clause-payload_left : goal.walk-of-size-requires-clause-payload_left
+walk-of-size-requires-clause-payload_left t c = omega (arith, c.in_ok-deep.ensures.passed.reads.spent.payload_left)
 
 pub walk-returns-clause-passed : goal.walk-returns-clause-passed
 walk-returns-clause-passed t c = c.in_ok-deep.ensures.passed

@@ -12,8 +12,8 @@ decreases-content l = 4 * l.levels
 abbrev pub decreases-walk : goal.decreases-walk
 decreases-walk l = 4 * l.levels + 1
 
-abbrev pub decreases-pass : goal.decreases-pass
-decreases-pass l = 4 * l.levels + 2
+abbrev pub decreases-validate : goal.decreases-validate
+decreases-validate l = 4 * l.levels + 2
 
 abbrev pub decreases-items : goal.decreases-items
 decreases-items l = 4 * l.levels + 3

@@ -1,6 +1,6 @@
 use Rattle.std.proofs.Common.{refl}
 use Rattle.plist_object.specs.Views.{octets_of}
-use Rattle.plist_engine.proofs.Added.{added-nothing}
+use Rattle.plist_write.proofs.Added.{added-nothing}
 use Rattle.plist_canon.proofs.visited.Visited.new.Goals as goal
 
 pub returns : goal.returns

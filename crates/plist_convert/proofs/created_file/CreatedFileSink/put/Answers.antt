@@ -10,7 +10,7 @@ pub invariant_of-self-in-Err : goal.invariant_of-self-in-Err
 invariant_of-self-in-Err g c =
     let old = c.args.self.now in
     let some : 0 < length c.args.piece.now = first_of (search rules, grind (arith, nat_tests)) in
-    let begun : is_begun g.K.Place.files (Some (g.O.Writer.Write.contents c.in-Some.created.writer)) ≡ true = rw c.in-Some.is at old.begun in
+    let begun : is_begun g.K.KnownTarget.files (Some (g.O.Writer.Write.contents c.in-Some.created.writer)) ≡ true = rw c.in-Some.is at old.begun in
     let keeps = c.in-Err.ensures.octets in
     record {
       known = old.known;

@@ -7,7 +7,7 @@ use Rattle.plist_convert.proofs.file_disk.FileDiskDisk.store.Goals as goal
 pub returns-in_err-settle-clause-stores : goal.returns-in_err-settle-clause-stores
 returns-in_err-settle-clause-stores g c =
     let e = err_from_is_err_and c.from_residual.result c.from_residual.ensures.1 in
-    rw (e.1, e.2) (unsettled c.args.form c.args.octets.items _ _ _ _ _ c.args.path.now _ _ c.create-created.ensures.creates c.in_err-settle.ensures.unchanged refl)
+    rw (e.1, e.2) (unsettled c.args.form c.args.octets.items _ _ _ _ _ c.args.path.now _ _ c.write_target-created.ensures.creates c.in_err-settle.ensures.unchanged refl)
 
 pub returns-in_err-settle-clause-full : goal.returns-in_err-settle-clause-full
 returns-in_err-settle-clause-full g c =
@@ -16,17 +16,17 @@ returns-in_err-settle-clause-full g c =
 
 pub returns-clause-stores : goal.returns-clause-stores
 returns-clause-stores g c =
-    let sent = c.create-created.result.1 in
-    let needs_memory = c.create-created.result.2 in
+    let sent = c.write_target-created.result.1 in
+    let needs_memory = c.write_target-created.result.2 in
     rw c.tell-stored.ensures (told_stored c.args.form c.args.octets.items _ _ _ _ c.args.path.now sent needs_memory
-    (λ x counts. settled g.O.Writer.Write.contents _ _ _ _ _ _ x _ _ sent c.create-created.ensures.placed c.create-created.ensures.creates
+    (λ x counts. settled g.O.Writer.Write.contents _ _ _ _ _ _ x _ _ sent c.write_target-created.ensures.placed c.write_target-created.ensures.creates
     c.in_ok-settle.ensures.settles counts) (rw c.tell-stored.ensures at c.failures_after-self.ensures))
 
 pub returns-clause-fits : goal.returns-clause-fits
 returns-clause-fits g c =
-    rw c.tell-stored.ensures (told_fits _ _ c.create-created.result.1 c.create-created.result.2 c.create-created.ensures.fits)
+    rw c.tell-stored.ensures (told_fits _ _ c.write_target-created.result.1 c.write_target-created.result.2 c.write_target-created.ensures.fits)
 
 pub returns-clause-full : goal.returns-clause-full
 returns-clause-full g c =
-    rw c.tell-stored.ensures (told_full c.args.form c.args.octets.items _ _ c.create-created.result.1 c.create-created.result.2
-    c.create-created.ensures.full)
+    rw c.tell-stored.ensures (told_full c.args.form c.args.octets.items _ _ c.write_target-created.result.1 c.write_target-created.result.2
+    c.write_target-created.ensures.full)

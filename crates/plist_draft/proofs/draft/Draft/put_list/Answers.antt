@@ -5,9 +5,9 @@ use Rattle.plist_draft.proofs.Storing.{PutsHeld, puts_held, spells-list}
 use Rattle.plist_draft.proofs.draft.Draft.put_list.Goals as goal
 use Rattle.plist_draft.proofs.draft.Draft.put_list.Goals.{After-push_reserved}
 
-puts : (c : After-push_reserved) → PutsHeld c.args.self.now.octets.items c.args.self.now.places.items c.put_short_list.new.out.items c.push_reserved.new.self.items (holds_list c.args.items.now)
+puts : (c : After-push_reserved) → PutsHeld c.args.self.now.octets.items c.args.self.now.offsets.items c.put_short_list.new.out.items c.push_reserved.new.self.items (holds_list c.args.items.now)
 puts c =
-    let placed : c.push_reserved.new.self.items ≡ c.args.self.now.places.items ++ (length c.args.self.now.octets.items ∷ []) = cc (c.push_reserved.ensures.items, c.begin.ensures.places, c.in_ok-number.ensures.place) in
+    let placed : c.push_reserved.new.self.items ≡ c.args.self.now.offsets.items ++ (length c.args.self.now.octets.items ∷ []) = cc (c.push_reserved.ensures.items, c.begin.ensures.offsets, c.in_ok-number.ensures.offset) in
     let spelled = rw c.begin.ensures.octets at c.in_ok-put_short_list.ensures.ok in
     puts_held _ _ _ _ (holds_list c.args.items.now) c.args.self.now.laid (c.in_ok-are_kept.ensures.0 refl) spelled placed
 

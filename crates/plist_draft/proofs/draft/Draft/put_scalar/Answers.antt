@@ -5,9 +5,9 @@ use Rattle.plist_value.specs.Scalars.{content_of}
 use Rattle.plist_draft.proofs.draft.Draft.put_scalar.Goals as goal
 use Rattle.plist_draft.proofs.draft.Draft.put_scalar.Goals.{After-push_reserved}
 
-puts : (c : After-push_reserved) → PutsHeld c.args.self.now.octets.items c.args.self.now.places.items c.spell.new.octets.items c.push_reserved.new.self.items (holds_scalar (content_of c.args.scalar.now))
+puts : (c : After-push_reserved) → PutsHeld c.args.self.now.octets.items c.args.self.now.offsets.items c.spell.new.octets.items c.push_reserved.new.self.items (holds_scalar (content_of c.args.scalar.now))
 puts c =
-    let placed : c.push_reserved.new.self.items ≡ c.args.self.now.places.items ++ (length c.args.self.now.octets.items ∷ []) = cc (c.push_reserved.ensures.items, c.begin.ensures.places, c.in_ok-number.ensures.place) in
+    let placed : c.push_reserved.new.self.items ≡ c.args.self.now.offsets.items ++ (length c.args.self.now.octets.items ∷ []) = cc (c.push_reserved.ensures.items, c.begin.ensures.offsets, c.in_ok-number.ensures.offset) in
     let spelled = rw c.begin.ensures.octets at c.in_ok-spell.ensures.ok in
     puts_held _ _ _ _ (holds_scalar (content_of c.args.scalar.now)) c.args.self.now.laid (c.requires, c.in_ok-spell.ensures.small) spelled placed
 

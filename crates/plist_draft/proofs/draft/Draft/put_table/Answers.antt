@@ -5,9 +5,9 @@ use Rattle.plist_draft.proofs.Storing.{PutsHeld, puts_held, spells-table}
 use Rattle.plist_draft.proofs.draft.Draft.put_table.Goals as goal
 use Rattle.plist_draft.proofs.draft.Draft.put_table.Goals.{After-push_reserved}
 
-puts : (c : After-push_reserved) → PutsHeld c.args.self.now.octets.items c.args.self.now.places.items c.put_short_table.new.out.items c.push_reserved.new.self.items (holds_table c.args.keys.now c.args.values.now)
+puts : (c : After-push_reserved) → PutsHeld c.args.self.now.octets.items c.args.self.now.offsets.items c.put_short_table.new.out.items c.push_reserved.new.self.items (holds_table c.args.keys.now c.args.values.now)
 puts c =
-    let placed : c.push_reserved.new.self.items ≡ c.args.self.now.places.items ++ (length c.args.self.now.octets.items ∷ []) = cc (c.push_reserved.ensures.items, c.begin.ensures.places, c.in_ok-number.ensures.place) in
+    let placed : c.push_reserved.new.self.items ≡ c.args.self.now.offsets.items ++ (length c.args.self.now.octets.items ∷ []) = cc (c.push_reserved.ensures.items, c.begin.ensures.offsets, c.in_ok-number.ensures.offset) in
     let spelled = rw c.begin.ensures.octets at c.in_ok-put_short_table.ensures.ok in
     puts_held _ _ _ _ (holds_table c.args.keys.now c.args.values.now) c.args.self.now.laid (c.requires, c.in_ok-are_kept.ensures.0 refl, c.in_ok-are_kept-2.ensures.0 refl) spelled placed
 

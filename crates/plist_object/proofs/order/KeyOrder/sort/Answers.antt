@@ -7,7 +7,7 @@ use Rattle.plist_value.specs.declared.text_ref.TextRef.{TextRef}
 use Rattle.plist_object.specs.Views.{octets_of, numbers_of}
 use Rattle.plist_object.specs.declared.order.Row.{Row}
 use Rattle.plist_object.specs.Order.{Ascend, IsInOrder}
-use Rattle.plist_object.specs.KeyOrder.{TellsOrder, by_number, place_of, units_at}
+use Rattle.plist_object.specs.KeyOrder.{TellsOrder, by_number, index_of, row_units}
 use Rattle.plist_object.proofs.KeyOrders.{IsInOrder-rows, moved_rows, strings-rows}
 use Rattle.plist_object.proofs.order.KeyOrder.sort.Goals as goal
 
@@ -26,7 +26,7 @@ returns-2-clause-order c =
     let sorted = c.sort_rows.new.rows.items in
     let by : IsSorted (by_number rows.texts.items) sorted = subst (λ (ts : List TextRef). IsSorted (by_number ts) sorted) c.deref.ensures.value c.sort_rows.ensures.sorted in
     let order = IsInOrder-rows f keys rows.texts.items rows.list.items sorted c.in_ok-texts.ensures.texts c.in_ok-texts.ensures.rows c.sort_rows.ensures.moved by in
-    subst (λ (ps : List ℕ). IsInOrder f keys ps) (sym (c.in_ok-places.ensures ∙ ap (map place_of) c.deref-4.ensures.value)) order
+    subst (λ (ps : List ℕ). IsInOrder f keys ps) (sym (c.in_ok-indices.ensures ∙ ap (map index_of) c.deref-4.ensures.value)) order
 
 pub returns-2-clause-distinct : goal.returns-2-clause-distinct
 returns-2-clause-distinct c =
@@ -37,10 +37,10 @@ returns-2-clause-distinct c =
     let sorted = c.sort_rows.new.rows.items in
     let distinct = c.ascend-distinct.result in
     let now = moved_rows texts rows.list.items sorted c.sort_rows.ensures.moved c.in_ok-texts.ensures.rows in
-    let places : c.in_ok-places.places.items ≡ map place_of sorted = c.in_ok-places.ensures ∙ ap (map place_of) c.deref-4.ensures.value in
-    let strings : map (units_at c.deref-3.result.now) c.deref-2.result.now ≡ map (units_at texts) sorted = ap (λ (ts : List TextRef). map (units_at ts) c.deref-2.result.now) c.deref-3.ensures.value ∙ ap (map (units_at texts)) c.deref-2.ensures.value in
-    let at : IsTrue distinct ↔ Ascend f keys (map place_of sorted) = subst (λ (ts : List (List ℕ)). IsTrue distinct ↔ IsStrictlySortedBy (slice_cmp nat_cmp) ts) (strings ∙ sym (strings-rows f keys texts sorted c.in_ok-texts.ensures.texts now)) c.ascend-distinct.ensures in
-    subst (λ (ps : List ℕ). IsTrue distinct ↔ Ascend f keys ps) (sym places) at
+    let indices : c.in_ok-indices.indices.items ≡ map index_of sorted = c.in_ok-indices.ensures ∙ ap (map index_of) c.deref-4.ensures.value in
+    let strings : map (row_units c.deref-3.result.now) c.deref-2.result.now ≡ map (row_units texts) sorted = ap (λ (ts : List TextRef). map (row_units ts) c.deref-2.result.now) c.deref-3.ensures.value ∙ ap (map (row_units texts)) c.deref-2.ensures.value in
+    let at : IsTrue distinct ↔ Ascend f keys (map index_of sorted) = subst (λ (ts : List (List ℕ)). IsTrue distinct ↔ IsStrictlySortedBy (slice_cmp nat_cmp) ts) (strings ∙ sym (strings-rows f keys texts sorted c.in_ok-texts.ensures.texts now)) c.ascend-distinct.ensures in
+    subst (λ (ps : List ℕ). IsTrue distinct ↔ Ascend f keys ps) (sym indices) at
 
 pub returns-2-clause-ready : goal.returns-2-clause-ready
 returns-2-clause-ready c = record {

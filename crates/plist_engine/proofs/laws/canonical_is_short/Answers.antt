@@ -1,5 +1,0 @@
-use Rattle.plist_engine.proofs.Binary.{canon-length}
-use Rattle.plist_engine.proofs.laws.canonical_is_short.Goals as goal
-
-pub returns : goal.returns
-returns c = canon-length

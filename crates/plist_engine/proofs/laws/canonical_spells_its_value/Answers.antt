@@ -1,5 +1,0 @@
-use Rattle.plist_engine.proofs.Binary.{canon-binary}
-use Rattle.plist_engine.proofs.laws.canonical_spells_its_value.Goals as goal
-
-pub returns : goal.returns
-returns c = canon-binary

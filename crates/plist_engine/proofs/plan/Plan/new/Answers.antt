@@ -1,9 +1,0 @@
-use Rattle.std.proofs.Common.{◌∙◌}
-use Rattle.plist_object.specs.Views.{octets_of}
-use Rattle.plist_engine.proofs.Remembering.{knows-none}
-use Rattle.plist_engine.proofs.plan.Plan.new.Goals as goal
-
-pub returns-clause-knows : goal.returns-clause-knows
-returns-clause-knows g c =
-    let memo = c.in_ok-memo.ensures in
-    knows-none (octets_of c.args.file.now) _ c.in_ok-originals.ensures.items c.new-2.ensures (memo.listed ∙ c.count-2.ensures) memo.none

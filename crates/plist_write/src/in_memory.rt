@@ -1,0 +1,75 @@
+//! The canonical file, in memory.
+ghost use Rattle.std.specs.Prelude.{◌≡◌, None, Some, IfOk};
+ghost use Rattle.plist_value.specs.Plist.{Plist};
+ghost use Rattle.plist_object.specs.KeyOrder.{IsReady};
+ghost use Rattle.plist_object.specs.Spelled.{IsBinary};
+ghost use Rattle.plist_object.specs.Views.{octets_of};
+ghost use Rattle.plist_write.specs.Canonical.{canon};
+
+use crate::sending::write_canonical_of;
+use crate::{DeviceFault, Sink};
+use plist_object::JudgedFile;
+use std::alloc::{AllocError, Global};
+use std::hash::BuildHasher;
+
+/// A sink that appends to a vector.
+#[derive(Drop)]
+struct GrowingSink {
+    octets: Vec<u8>,
+    failures: u64,
+}
+
+impl Sink for GrowingSink {
+    ghost taken = { λ sink. Some sink.octets.items };
+
+    ghost failures = { λ sink. sink.failures };
+
+    fn put(&mut self, piece: &[u8]) -> Result<usize, DeviceFault> {
+        if self.failures == u64::MAX {
+            return Err(DeviceFault);
+        }
+        match self.octets.extend_from_slice(piece) {
+            Ok(()) => Ok(piece.len()),
+            Err(_) => {
+                self.failures += 1;
+                Err(DeviceFault)
+            }
+        }
+    }
+
+    fn failures(&self) -> u64 {
+        self.failures
+    }
+}
+
+/// Returns the canonical file of the value that the file encodes.
+///
+/// Visits the objects that the value uses, without building the value, and then the objects of the
+/// canonical file. Each value has exactly one canonical file, which is a binary file of it. The
+/// layout is that of CFBinaryPList.c; the choice among the files of one value is our profile.
+///
+/// A dictionary with the same keys as the one before reuses its order. For `hasher` see
+/// [`write_canonical_of`].
+///
+/// # Errors
+///
+/// Fails if there is no memory for the file, or for the plan of its objects.
+pub fn canonical_of<S: BuildHasher + Copy>(
+    alloc: Global,
+    hasher: S,
+    judged: JudgedFile,
+) -> Result<Vec<u8>, AllocError>
+    requires binary { (v : Plist) × IsBinary (octets_of judged.file) v }
+    requires ready { IsReady (octets_of judged.file) judged.order }
+    ensures { IfOk result (λ octets. (v : Plist) → IsBinary (octets_of judged.entry.file) v
+        → octets.items ≡ canon v) }
+{
+    let mut sink = GrowingSink {
+        octets: Vec::new(alloc),
+        failures: 0,
+    };
+    match write_canonical_of(alloc, hasher, judged, &mut sink) {
+        Ok(_) => Ok(sink.octets),
+        Err(_) => Err(AllocError),
+    }
+}
