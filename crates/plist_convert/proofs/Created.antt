@@ -6,7 +6,7 @@ use Rattle.std.proofs.lemmas.List.{length-take-le}
 use Rattle.std.proofs.lemmas.Slice.Eq.{bytes_eq-Decides}
 use Rattle.plist_write.specs.Canonical.{canon}
 use Rattle.plist_write.specs.Sending.{IsWritten, sent_of}
-use Rattle.plist_write.proofs.Going.{IsShort-within}
+use Rattle.plist_write.proofs.Going.{less_within}
 use Rattle.plist_write.specs.declared.faults.WriteFault.{WriteFault}
 use Rattle.plist_write.specs.declared.faults.WriteFault.TheVariants as write
 use Rattle.plist_forms.specs.Output.{IsOutput}
@@ -175,7 +175,7 @@ none_out : (old new : Files) (before after failures : ℕ) (path : FileName) (ou
 none_out old new before after failures path output (Ok n) some written may counts = absurd (some (sym written.whole.0))
 none_out old new before after failures path output (Err fault) some written may counts =
     let none = written.front.0 in
-    let zero = none_sent output (sent_of fault) (IsShort-within fault _ _ written.within) none in
+    let zero = none_sent output (sent_of fault) (less_within _ _ written.within) none in
     record {
       others = may.1;
       count = tt;

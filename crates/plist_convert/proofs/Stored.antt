@@ -14,7 +14,7 @@ use Rattle.plist_forms.specs.declared.forms.Form.{Form}
 use Rattle.plist_write.specs.declared.faults.WriteFault.{WriteFault}
 use Rattle.plist_write.specs.declared.faults.WriteFault.TheVariants as write
 use Rattle.plist_write.specs.Sending.{IsBlamed, IsWritten, sent_of}
-use Rattle.plist_write.proofs.Going.{IsShort-within}
+use Rattle.plist_write.proofs.Going.{less_within}
 use Rattle.plist_forms.specs.Output.{IsOutputFault}
 use Rattle.plist_forms.specs.Sent.{answer_of}
 use Rattle.plist_forms.specs.Transfer.{Writes}
@@ -117,7 +117,7 @@ unsent_stored old new before after failures path octets (Err fault) err written 
   count = tt;
   whole = tt;
   within = written.within;
-  front = (inl (none_sent octets (sent_of fault) (IsShort-within fault _ _ written.within) written.front.0, same path), counted);
+  front = (inl (none_sent octets (sent_of fault) (less_within _ _ written.within) written.front.0, same path), counted);
 }
 
 pub stored_none : (form : Form) (octets : List ℕ) (old new : Files) (before after failures : ℕ) (path : FileName) (taken : List ℕ)

@@ -8,7 +8,7 @@ use Rattle.plist_forms.specs.declared.faults.Fault.TheVariants.{InputTooLarge, O
 use Rattle.plist_forms.specs.declared.forms.Form.{Form}
 use Rattle.plist_forms.specs.declared.loading.TheConstants.{MAX_INPUT}
 use Rattle.plist_write.specs.declared.faults.WriteFault.{WriteFault}
-use Rattle.plist_write.specs.Sending.{IsBlamed, IsShort, sent_of}
+use Rattle.plist_write.specs.Sending.{IsBlamed, sent_of}
 use Rattle.plist_forms.specs.Output.{IsOutput, IsOutputFault}
 use Rattle.plist_forms.specs.Sent.{answer_of}
 
@@ -66,7 +66,7 @@ pub record IsStored (files rest : Option Files) (before after : ℕ) (path : Fil
   pub others : SameBeside path files rest
   pub count : IfOk result (λ sent. (sent ≡ length octets) × (after ≡ before))
   pub whole : IfOk result (λ _. Turns files rest (λ old new. new path ≡ Some octets))
-  pub within : IfErr result (λ fault. IsShort fault (sent_of fault) (length octets))
+  pub within : IfErr result (λ fault. sent_of fault < length octets)
   pub front : IfErr result (λ fault. HoldsFront files rest path octets (sent_of fault)
       × IsBlamed fault before after)
 

@@ -9,12 +9,12 @@ use Rattle.std.specs.declared.alloc.AllocError.{AllocError}
 use Rattle.plist_devices.specs.Count.{one_more}
 use Rattle.plist_write.specs.declared.faults.WriteFault.{WriteFault}
 use Rattle.plist_write.specs.declared.faults.WriteFault.TheVariants.{OutOfMemory, WriteFailed}
-use Rattle.plist_write.specs.Sending.{sent_of, Allows, IsBlamed, IsShort, IsWritten}
+use Rattle.plist_write.specs.Sending.{sent_of, Allows, IsBlamed, IsWritten}
 use Rattle.plist_write.specs.BufferedSink.{SinkState, Stays, Gathers, Stops, Emits, KeepsShort}
 
 -- a prefix is no longer than the whole
-pub IsShort-within : (e : WriteFault) (out all : ℕ) → IsShort e out all → out ≤ all
-IsShort-within e out all h = omega arith
+pub less_within : (out all : ℕ) → out < all → out ≤ all
+less_within out all h = omega arith
 
 pub Stays-trans : (p q r : SinkState) → Stays p q → Stays q r → Stays p r
 Stays-trans p q r first second = record { sink = second.sink ∙ first.sink; device = second.device ∙ first.device }

@@ -8,7 +8,7 @@ use Rattle.plist_object.specs.Spelling.{least_width, references}
 use Rattle.plist_write.specs.Canonical.{trailer_octets}
 use Rattle.plist_write.specs.declared.faults.WriteFault.{WriteFault}
 use Rattle.plist_write.specs.declared.buffered_sink.BufferedSink.{BufferedSink}
-use Rattle.plist_write.specs.Sending.{sent_of, IsBlamed, IsShort, Allows}
+use Rattle.plist_write.specs.Sending.{sent_of, IsBlamed, Allows}
 
 -- The state of a buffered sink: the name of the borrowed sink and its device, the bytes that the
 -- sink took, if it records them, the buffered bytes, and the number of bytes sent. The sink's
@@ -56,7 +56,7 @@ pub record Gathers (octets : List ℕ) (old new : SinkState) : Type 0 where
 pub record Stops (octets : List ℕ) (old new : SinkState) (fault : WriteFault) : Type 0 where
   pub more : ℕ
   pub sent : sent_of fault ≡ old.sent + more
-  pub within : IsShort fault more (length (old.waiting ++ octets))
+  pub within : more < length (old.waiting ++ octets)
   pub taken : Appends old.taken new.taken (take more (old.waiting ++ octets))
   pub blamed : IsBlamed fault old.failures new.failures
 

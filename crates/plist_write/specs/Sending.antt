@@ -32,17 +32,13 @@ abbrev pub IsBlamed : WriteFault → ℕ → ℕ → Type 0
 IsBlamed (WriteFailed sent) before after = after ≡ one_more before
 IsBlamed (OutOfMemory sent) before after = after ≡ before
 
--- whether `out` of `all` bytes can have been written when a call fails: fewer than all
-abbrev pub IsShort : WriteFault → ℕ → ℕ → Type 0
-IsShort fault out all = out < all
-
 -- If the call succeeds, it returns the size of the file, and the sink took the file without a
 -- failure. If it fails, exactly the prefix was written whose length the error gives, and not all.
 pub record IsWritten (file : List ℕ) (old new : Option (List ℕ)) (before after : ℕ)
     (result : Result ℕ WriteFault) : Type 0 where
   pub count : IfOk result (λ n. n ≡ length file)
   pub whole : IfOk result (λ _. Appends old new file × (after ≡ before))
-  pub within : IfErr result (λ fault. IsShort fault (sent_of fault) (length file))
+  pub within : IfErr result (λ fault. sent_of fault < length file)
   pub front : IfErr result (λ fault. Appends old new (take (sent_of fault) file)
       × IsBlamed fault before after)
 
