@@ -7,7 +7,7 @@ use Rattle.ostep_lex.specs.declared.fault.LexFault.{LexFault}
 use Rattle.ostep_lex.specs.declared.fault.LexFault.TheVariants.{BadUtf8, XmlForm, UnexpectedCharacter, UnclosedString, UnclosedComment, BadEscape, OctalRange, OddData, BadData, BadUtf16, OutOfMemory}
 use Rattle.ostep_lex.specs.Encoding.{Offsets, offsets_of, Spells, StopsAt, offset, octets_of, encoding_of, mark_of}
 use Rattle.ostep_lex.specs.Cursor.{UnlessMemory}
-use Rattle.ostep_lex.specs.Character.{is_white, less_than}
+use Rattle.ostep_lex.specs.Character.{is_white}
 use Rattle.ostep_lex.specs.Gap
 use Rattle.ostep_lex.specs.Gap.{Gap, GapPiece, LineComment, BlockComment}
 use Rattle.ostep_lex.specs.Octets.{Octets, OctetsPiece}
@@ -60,28 +60,28 @@ White-lexes Stands.none l = l
 White-lexes (Stands.more w r) l = White-lexes r (after_white w l)
 
 -- no token begins like an XML property list
-angle-piece : {rest after : List ℕ} → GapPiece (less_than ∷ rest) after → ⊥
+angle-piece : {rest after : List ℕ} → GapPiece (60 ∷ rest) after → ⊥
 angle-piece (Gap.white w) = cc
 
 angle-octets : {c : ℕ} {rest octets after : List ℕ} → is_of_data c ≡ false → Octets (c ∷ rest) octets after → ⊥
 angle-octets d Octets.close = cc
 angle-octets d (Octets.piece e r) = other-octets d e
 
-angle-token : {c : ℕ} {rest after : List ℕ} {l : Lexeme} → is_of_data c ≡ false → IsToken (less_than ∷ c ∷ rest) l after → ⊥
+angle-token : {c : ℕ} {rest after : List ℕ} {l : Lexeme} → is_of_data c ≡ false → IsToken (60 ∷ c ∷ rest) l after → ⊥
 angle-token d (Lexeme.mark m) = cc
 angle-token d (Lexeme.run t b r) = cc
 angle-token d (Lexeme.quoted q r) = cc
 angle-token d (Lexeme.data_token r) = angle-octets d r
 
-angle-gap : {rest end : List ℕ} → Gap (less_than ∷ rest) end → end ≡ less_than ∷ rest
+angle-gap : {rest end : List ℕ} → Gap (60 ∷ rest) end → end ≡ 60 ∷ rest
 angle-gap Gap.none = refl
 angle-gap (Gap.piece g s) = absurd (angle-piece g)
 
-angle-lexes : {p : Offsets} {c : ℕ} {rest : List ℕ} {tokens : List Located} → is_of_data c ≡ false → Lexes p (less_than ∷ c ∷ rest) tokens → ⊥
+angle-lexes : {p : Offsets} {c : ℕ} {rest : List ℕ} {tokens : List Located} → is_of_data c ≡ false → Lexes p (60 ∷ c ∷ rest) tokens → ⊥
 angle-lexes d (none g) = cc (angle-gap g)
 angle-lexes d (next {after = after} {lexeme = l} g t r) = angle-token d (subst (λ x. IsToken x l after) (angle-gap g) t)
 
-begins-lexes : {p : Offsets} {text : List ℕ} {tokens : List Located} (c : ℕ) (rest : List ℕ) → text ≡ less_than ∷ c ∷ rest → is_of_data c ≡ false → Lexes p text tokens → ⊥
+begins-lexes : {p : Offsets} {text : List ℕ} {tokens : List Located} (c : ℕ) (rest : List ℕ) → text ≡ 60 ∷ c ∷ rest → is_of_data c ≡ false → Lexes p text tokens → ⊥
 begins-lexes {p} {tokens = tokens} c rest e d l = angle-lexes d (subst (λ x. Lexes p x tokens) e l)
 
 either : (a b : Bool) → (a || b) ≡ true → (a ≡ true) ⊎ (b ≡ true)

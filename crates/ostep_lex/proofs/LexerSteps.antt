@@ -3,7 +3,7 @@ use Rattle.std.proofs.Common.{ℕ, ◌≤◌, true, false, List, [], ◌∷◌, 
 use Rattle.std.proofs.lemmas.Bool.{cases_Bool}
 use Rattle.std.proofs.lemmas.Bool.Decides.{nat_tests}
 use Rattle.std.proofs.lemmas.List.{map-append}
-use Rattle.ostep_lex.specs.Character.{slash, star, is_white, is_line_end, is_run, is_quote, less_than}
+use Rattle.ostep_lex.specs.Character.{is_white, is_line_end, is_run, is_quote}
 use Rattle.ostep_lex.specs.Gap
 use Rattle.ostep_lex.specs.Gap.{LineComment, BlockComment, NeverCloses, GapPiece, Gap, closes_comment, begins_gap, begins_comment}
 use Rattle.ostep_lex.specs.declared.cursor.Cursor.{Cursor}
@@ -41,7 +41,7 @@ block_more {c} {text} {rest} {end} e t r = subst (λ x. BlockComment x end) (sym
 pub never_more : {c : ℕ} {text rest : List ℕ} → text ≡ c ∷ rest → closes_comment text ≡ false → NeverCloses rest → NeverCloses text
 never_more e t r = subst NeverCloses (sym e) (Gap.more (ap closes_comment (sym e) ∙ t) r)
 
-pub block_close : {text end : List ℕ} → text ≡ star ∷ slash ∷ end → BlockComment text end
+pub block_close : {text end : List ℕ} → text ≡ 42 ∷ 47 ∷ end → BlockComment text end
 block_close {end = end} e = subst (λ x. BlockComment x end) (sym e) Gap.close
 
 pub never_none : {text : List ℕ} → text ≡ [] → NeverCloses text
@@ -63,25 +63,25 @@ piece_white old new c e w i = record {
   shorter = omega (arith, ap length e);
 }
 
-pub piece_line : (old text new : Cursor) → ahead old ≡ slash ∷ slash ∷ ahead text → LineComment (ahead text) (ahead new) → SameInput old new → PassesPiece old new
+pub piece_line : (old text new : Cursor) → ahead old ≡ 47 ∷ 47 ∷ ahead text → LineComment (ahead text) (ahead new) → SameInput old new → PassesPiece old new
 piece_line old text new e r i = record {
   piece = subst (λ x. GapPiece x (ahead new)) (sym e) (Gap.line r);
   input = i;
   shorter = let h = line_shorter r in omega (arith, ap length e, h);
 }
 
-pub piece_block : (old text new : Cursor) → ahead old ≡ slash ∷ star ∷ ahead text → BlockComment (ahead text) (ahead new) → SameInput old new → PassesPiece old new
+pub piece_block : (old text new : Cursor) → ahead old ≡ 47 ∷ 42 ∷ ahead text → BlockComment (ahead text) (ahead new) → SameInput old new → PassesPiece old new
 piece_block old text new e r i = record {
   piece = subst (λ x. GapPiece x (ahead new)) (sym e) (Gap.block r);
   input = i;
   shorter = let h = block_shorter r in omega (arith, ap length e, h);
 }
 
-pub comment_fault : (cursor : Cursor) (text : List ℕ) (at : ℕ) → ahead cursor ≡ slash ∷ star ∷ text → NeverCloses text → at ≡ offset_at cursor
+pub comment_fault : (cursor : Cursor) (text : List ℕ) (at : ℕ) → ahead cursor ≡ 47 ∷ 42 ∷ text → NeverCloses text → at ≡ offset_at cursor
     → FaultAt (offsets_in cursor) (ahead cursor) (UnclosedComment at)
 comment_fault cursor text at e n p =
     subst (λ x. FaultAt (offsets_in cursor) x (UnclosedComment at)) (sym e)
-    (subst (λ q. FaultAt (offsets_in cursor) (slash ∷ star ∷ text) (UnclosedComment q)) (sym (p ∙ ap (offset (offsets_in cursor)) e)) (Stands.comment n))
+    (subst (λ q. FaultAt (offsets_in cursor) (47 ∷ 42 ∷ text) (UnclosedComment q)) (sym (p ∙ ap (offset (offsets_in cursor)) e)) (Stands.comment n))
 
 pub white_more : {c : ℕ} {text rest end : List ℕ} → text ≡ c ∷ rest → is_white c ≡ true → White rest end → White text end
 white_more {end = end} e w r = subst (λ x. White x end) (sym e) (Stands.more w r)
@@ -143,7 +143,7 @@ token_run c text rest units end e t b r =
 pub token_quoted : (c : ℕ) (text rest units end : List ℕ) → text ≡ c ∷ rest → is_quote c ≡ true → Quoted c rest units end → IsToken text (Lexeme.text units) end
 token_quoted c text rest units end e q r = subst (λ x. IsToken x (Lexeme.text units) end) (sym e) (Lexeme.quoted q r)
 
-pub token_data : (c : ℕ) (text rest octets end : List ℕ) → text ≡ c ∷ rest → c ≡ less_than → Octets rest octets end → IsToken text (Lexeme.octets octets) end
+pub token_data : (c : ℕ) (text rest octets end : List ℕ) → text ≡ c ∷ rest → c ≡ 60 → Octets rest octets end → IsToken text (Lexeme.octets octets) end
 token_data c text rest octets end e l r = subst (λ x. IsToken x (Lexeme.octets octets) end) (sym (e ∙ ap (λ d. d ∷ rest) l)) (Lexeme.data_token r)
 
 pub quoted_fault : (p : Offsets) (start c : ℕ) (text rest : List ℕ) (fault : LexFault) → text ≡ c ∷ rest → is_quote c ≡ true → start ≡ offset p text
@@ -151,11 +151,11 @@ pub quoted_fault : (p : Offsets) (start c : ℕ) (text rest : List ℕ) (fault :
 quoted_fault p start c text rest fault e q a f =
     subst (λ x. FaultAt p x fault) (sym e) (Stands.quoted q (subst (λ n. QuotedFault p n c rest fault) (a ∙ ap (offset p) e) f))
 
-pub data_fault : (p : Offsets) (c : ℕ) (text rest : List ℕ) (fault : LexFault) → text ≡ c ∷ rest → c ≡ less_than → OctetsFault p rest fault → FaultAt p text fault
+pub data_fault : (p : Offsets) (c : ℕ) (text rest : List ℕ) (fault : LexFault) → text ≡ c ∷ rest → c ≡ 60 → OctetsFault p rest fault → FaultAt p text fault
 data_fault p c text rest fault e l f = subst (λ x. FaultAt p x fault) (sym (e ∙ ap (λ d. d ∷ rest) l)) (Stands.data_token f)
 
 pub unexpected_fault : (p : Offsets) (at c : ℕ) (text rest : List ℕ) → text ≡ c ∷ rest → mark_token c ≡ None → is_run c ≡ false → is_quote c ≡ false
-    → (c == less_than) ≡ false → begins_gap text ≡ false → at ≡ offset p text → FaultAt p text (UnexpectedCharacter at)
+    → (c == 60) ≡ false → begins_gap text ≡ false → at ≡ offset p text → FaultAt p text (UnexpectedCharacter at)
 unexpected_fault p at c text rest e m r q l b a =
     let white = or_left (is_white c) (begins_comment (c ∷ rest)) (ap begins_gap (sym e) ∙ b) in
     let other : begins_other c ≡ false = rw (white, r, q, l) refl in
@@ -292,12 +292,12 @@ plain_quoted {mark} {old} {mid} {new} {front} p e i same = record {
   input = i ∙ p.input;
 }
 
-no_comment : (c : ℕ) (rest : List ℕ) → (c == slash) ≡ false → begins_comment (c ∷ rest) ≡ false
+no_comment : (c : ℕ) (rest : List ℕ) → (c == 47) ≡ false → begins_comment (c ∷ rest) ≡ false
 no_comment c [] e = refl
 no_comment c (d ∷ rest) e = rw e refl
 
 -- no gap begins with a character of an unquoted string other than a slash
-pub run_gapless : (c : ℕ) (text rest : List ℕ) → text ≡ c ∷ rest → is_run c ≡ true → (c == slash) ≡ false → begins_gap text ≡ false
+pub run_gapless : (c : ℕ) (text rest : List ℕ) → text ≡ c ∷ rest → is_run c ≡ true → (c == 47) ≡ false → begins_gap text ≡ false
 run_gapless c text rest e r s =
     let white : is_white c ≡ false = elim (cases_Bool (is_white c)) [ inl w ↦ absurd (white-run c w r) | inr n ↦ n ] in
     ap begins_gap e ∙ rw (white, no_comment c rest s) refl

@@ -10,14 +10,14 @@ use Rattle.std.proofs.Math.Seq.{drop-append_seam}
 use Rattle.std.proofs.lemmas.Bool.Decides.{nat_tests}
 use Rattle.std.proofs.lemmas.Str.{IsCharBoundary-at_seam, encode_ascii, IsUtf8-past_char, chars_past_char}
 use lib.Utf8.{encode}
-use Rattle.ostep_lex.specs.Digits.{number_from, begins_digit, octal_number, hexadecimal_number, Number}
-use Rattle.ostep_lex.specs.Character.{is_run, is_octal, backslash, is_white, is_hexadecimal, greater_than}
+use Rattle.ostep_lex.specs.Digits.{number_from, begins_digit, Number}
+use Rattle.ostep_lex.specs.Character.{is_run, is_white}
 use Rattle.ostep_lex.specs.declared.fault.LexFault.TheVariants.{UnclosedString, BadEscape, OctalRange, BadData, OddData}
 use Rattle.ostep_lex.specs.Encoding.{Offsets, offset}
 use Rattle.ostep_lex.specs.Stands
 use Rattle.ostep_lex.specs.Stands.{EscapeFault, QuotedFault, OctetsFault}
 use Rattle.ostep_lex.specs.Quoted
-use Rattle.ostep_lex.specs.Quoted.{Run, begins_run, Escape, Piece, Quoted, escaped, is_raw, unit_letter}
+use Rattle.ostep_lex.specs.Quoted.{Run, begins_run, Escape, Piece, Quoted, escaped, is_raw}
 use Rattle.ostep_lex.specs.Octets
 use Rattle.ostep_lex.specs.Octets.{OctetsPiece, Octets}
 use Rattle.ostep_lex.specs.declared.source.Source.{Source}
@@ -80,31 +80,31 @@ run_stop e t = Quoted.stop (ap begins_run e ∙ t)
 pub run_none : {text : List ℕ} → text ≡ [] → Run text [] text
 run_none e = Quoted.stop (ap begins_run e)
 
-pub escape_octal : (text end : List ℕ) (value : ℕ) → begins_digit 8 text ≡ true → octal_number text ≡ record { value = value; after = end } → value ≤ 0x7f
+pub escape_octal : (text end : List ℕ) (value : ℕ) → begins_digit 8 text ≡ true → number_from 8 3 0 text ≡ record { value = value; after = end } → value ≤ 0x7f
     → Escape text (value ∷ []) end
 escape_octal text end value d n low =
-    let limit : (octal_number text).value ≤ 0x7f = rw n low in
+    let limit : (number_from 8 3 0 text).value ≤ 0x7f = rw n low in
     subst (λ (m : Number). Escape text (m.value ∷ []) m.after) n (Quoted.octal d limit)
 
-pub escape_unit : (text digits end : List ℕ) (value : ℕ) → text ≡ unit_letter ∷ digits → begins_digit 16 digits ≡ true
-    → hexadecimal_number digits ≡ record { value = value; after = end } → Escape text (value ∷ []) end
+pub escape_unit : (text digits end : List ℕ) (value : ℕ) → text ≡ 85 ∷ digits → begins_digit 16 digits ≡ true
+    → number_from 16 4 0 digits ≡ record { value = value; after = end } → Escape text (value ∷ []) end
 escape_unit text digits end value e d n =
-    subst (λ x. Escape x (value ∷ []) end) (sym e) (subst (λ (m : Number). Escape (unit_letter ∷ digits) (m.value ∷ []) m.after) n (Quoted.unit d))
+    subst (λ x. Escape x (value ∷ []) end) (sym e) (subst (λ (m : Number). Escape (85 ∷ digits) (m.value ∷ []) m.after) n (Quoted.unit d))
 
-pub escape_character : (text rest : List ℕ) (c : ℕ) → text ≡ c ∷ rest → is_octal c ≡ false → (c == unit_letter) ≡ false → Escape text (escaped c) rest
-escape_character text rest c e o u = subst (λ x. Escape x (escaped c) rest) (sym e) (Quoted.character o u)
+pub escape_character : (text rest : List ℕ) (c : ℕ) → text ≡ c ∷ rest → is_digit c 8 ≡ false → (c == 85) ≡ false → Escape text (encode_utf16 (escaped c)) rest
+escape_character text rest c e o u = subst (λ x. Escape x (encode_utf16 (escaped c)) rest) (sym e) (Quoted.character o u)
 
-pub octal_fault : (p : Offsets) (start at value : ℕ) (text rest end : List ℕ) → text ≡ backslash ∷ rest → begins_digit 8 rest ≡ true
-    → octal_number rest ≡ record { value = value; after = end } → 0x7f < value → at ≡ offset p text → EscapeFault p start text (OctalRange at)
+pub octal_fault : (p : Offsets) (start at value : ℕ) (text rest end : List ℕ) → text ≡ 92 ∷ rest → begins_digit 8 rest ≡ true
+    → number_from 8 3 0 rest ≡ record { value = value; after = end } → 0x7f < value → at ≡ offset p text → EscapeFault p start text (OctalRange at)
 octal_fault p start at value text rest end e d n high a =
-    let limit : 0x7f < (octal_number rest).value = rw n high in
+    let limit : 0x7f < (number_from 8 3 0 rest).value = rw n high in
     rw (a, e) (Stands.too_high d limit)
 
-pub unit_fault : (p : Offsets) (start at : ℕ) (text letter rest : List ℕ) → text ≡ backslash ∷ letter → letter ≡ unit_letter ∷ rest → begins_digit 16 rest ≡ false
+pub unit_fault : (p : Offsets) (start at : ℕ) (text letter rest : List ℕ) → text ≡ 92 ∷ letter → letter ≡ 85 ∷ rest → begins_digit 16 rest ≡ false
     → at ≡ offset p text → EscapeFault p start text (BadEscape at)
 unit_fault p start at text letter rest e l d a = rw (a, e, l) (Stands.no_digit d)
 
-pub cut_fault : (p : Offsets) (start : ℕ) (text rest : List ℕ) → text ≡ backslash ∷ rest → rest ≡ [] → EscapeFault p start text (UnclosedString start)
+pub cut_fault : (p : Offsets) (start : ℕ) (text rest : List ℕ) → text ≡ 92 ∷ rest → rest ≡ [] → EscapeFault p start text (UnclosedString start)
 cut_fault p start text rest e r = rw (e, r) Stands.cut_escape
 
 number_shorter : (base count high : ℕ) (text : List ℕ) → length (number_from base count high text).after ≤ length text
@@ -125,11 +125,11 @@ pub piece_shorter : {mark : ℕ} {text units rest : List ℕ} → Piece mark tex
 piece_shorter (Quoted.raw r) = omega arith
 piece_shorter (Quoted.escape e) = let h = escape_shorter e in omega (arith, h)
 
-pub piece_raw : (mark c : ℕ) (text rest : List ℕ) → text ≡ c ∷ rest → (c == backslash) ≡ false → (c == mark) ≡ false → Piece mark text (encode_utf16 c) rest
+pub piece_raw : (mark c : ℕ) (text rest : List ℕ) → text ≡ c ∷ rest → (c == 92) ≡ false → (c == mark) ≡ false → Piece mark text (encode_utf16 c) rest
 piece_raw mark c text rest e b m =
     subst (λ x. Piece mark x (encode_utf16 c) rest) (sym e) (Quoted.raw (rw (b, m) refl))
 
-pub piece_escape : (mark c : ℕ) (text rest units end : List ℕ) → text ≡ c ∷ rest → c ≡ backslash → Escape rest units end → Piece mark text units end
+pub piece_escape : (mark c : ℕ) (text rest units end : List ℕ) → text ≡ c ∷ rest → c ≡ 92 → Escape rest units end → Piece mark text units end
 piece_escape mark c text rest units end e b r =
     subst (λ x. Piece mark x units end) (sym (e ∙ ap (λ d. d ∷ rest) b)) (Quoted.escape r)
 
@@ -142,33 +142,33 @@ cut_string_fault p start mark text e = subst (λ x. QuotedFault p start mark x (
 pub piece_white : (c : ℕ) (text rest : List ℕ) → text ≡ c ∷ rest → is_white c ≡ true → OctetsPiece text [] rest
 piece_white c text rest e w = subst (λ x. OctetsPiece x [] rest) (sym e) (Octets.white w)
 
-pub piece_pair : (c d : ℕ) (high low : ℕ) (text middle rest : List ℕ) → text ≡ c ∷ middle → middle ≡ d ∷ rest → is_hexadecimal c ≡ true → is_hexadecimal d ≡ true
+pub piece_pair : (c d : ℕ) (high low : ℕ) (text middle rest : List ℕ) → text ≡ c ∷ middle → middle ≡ d ∷ rest → is_digit c 16 ≡ true → is_digit d 16 ≡ true
     → high ≡ digit_value c → low ≡ digit_value d → OctetsPiece text ((high * 16 + low) ∷ []) rest
 piece_pair c d high low text middle rest e f h i v w = rw (e, f, v, w) (Octets.pair h i)
 
-pub octets_close : (c : ℕ) (text rest : List ℕ) → text ≡ c ∷ rest → c ≡ greater_than → Octets text [] rest
+pub octets_close : (c : ℕ) (text rest : List ℕ) → text ≡ c ∷ rest → c ≡ 62 → Octets text [] rest
 octets_close c text rest e g = rw (e, g) Octets.close
 
 pub octets_piece_shorter : {text octets rest : List ℕ} → OctetsPiece text octets rest → length rest < length text
 octets_piece_shorter (Octets.white w) = omega arith
 octets_piece_shorter (Octets.pair h i) = omega arith
 
-none_of_data : (c : ℕ) → is_white c ≡ false → is_hexadecimal c ≡ false → (c == greater_than) ≡ false → Stands.is_of_data c ≡ false
+none_of_data : (c : ℕ) → is_white c ≡ false → is_digit c 16 ≡ false → (c == 62) ≡ false → Stands.is_of_data c ≡ false
 none_of_data c w h g = rw (w, h, g) refl
 
-pub other_fault : (p : Offsets) (at c : ℕ) (text rest : List ℕ) → text ≡ c ∷ rest → is_white c ≡ false → begins_digit 16 text ≡ false → (c == greater_than) ≡ false
+pub other_fault : (p : Offsets) (at c : ℕ) (text rest : List ℕ) → text ≡ c ∷ rest → is_white c ≡ false → begins_digit 16 text ≡ false → (c == 62) ≡ false
     → at ≡ offset p text → OctetsFault p text (BadData at)
 other_fault p at c text rest e w h g a =
     rw (a, e) (Stands.other (none_of_data c w (ap (begins_digit 16) (sym e) ∙ h) g))
 
-pub odd_fault : (p : Offsets) (at c : ℕ) (text rest : List ℕ) → text ≡ c ∷ rest → is_hexadecimal c ≡ true → begins_digit 16 rest ≡ false
+pub odd_fault : (p : Offsets) (at c : ℕ) (text rest : List ℕ) → text ≡ c ∷ rest → is_digit c 16 ≡ true → begins_digit 16 rest ≡ false
     → at ≡ offset p text → OctetsFault p text (OddData at)
 odd_fault p at c text rest e h d a = rw (a, e) (Stands.odd h d)
 
 pub cut_data_fault : (p : Offsets) (at : ℕ) (text : List ℕ) → text ≡ [] → at ≡ offset p text → OctetsFault p text (BadData at)
 cut_data_fault p at text e a = rw (a, e) Stands.cut_data
 
-ascii : (c : ℕ) → is_hexadecimal c ≡ true → c < 128
+ascii : (c : ℕ) → is_digit c 16 ≡ true → c < 128
 ascii c h = grind (arith, nat_tests)
 
 pub one_pair : {text second after : List ℕ} {c d high low : ℕ} → text ≡ c ∷ second → second ≡ d ∷ after → IsDigitOf c high → IsDigitOf d low

@@ -19,7 +19,7 @@ use Rattle.ostep_lex.specs.Source.{encoding_by, unit_octets, units_in, utf16_cha
 use Rattle.ostep_lex.specs.declared.stretch.Class.TheVariants.{Run, White, Raw, Line, Starless}
 use Rattle.ostep_lex.specs.declared.cursor.Cursor.{Cursor}
 use Rattle.ostep_lex.specs.declared.fault.LexFault.{LexFault}
-use Rattle.ostep_lex.specs.Character.{is_line_end, star}
+use Rattle.ostep_lex.specs.Character.{is_line_end}
 use Rattle.ostep_lex.specs.Gap
 use Rattle.ostep_lex.specs.Gap.{LineComment, BlockComment, NeverCloses, Gap, GapPiece, closes_comment}
 use Rattle.ostep_lex.specs.Quoted
@@ -220,19 +220,19 @@ line_front : (front rest end : List ℕ) → is_stretch 0xD800 Line front ≡ tr
 line_front [] rest end s r = r
 line_front (c ∷ cs) rest end s r = Gap.more (not_true (is_line_end c) (here Line c cs s)) (line_front cs rest end (rest_of Line c cs s) r)
 
-goes_on : (c : ℕ) (rest : List ℕ) → (c == star) ≡ false → closes_comment (c ∷ rest) ≡ false
+goes_on : (c : ℕ) (rest : List ℕ) → (c == 42) ≡ false → closes_comment (c ∷ rest) ≡ false
 goes_on c [] e = refl
 goes_on c (d ∷ rest) e = rw e refl
 
 block_front : (front rest end : List ℕ) → is_stretch 0xD800 Starless front ≡ true → BlockComment rest end → BlockComment (front ++ rest) end
 block_front [] rest end s r = r
 block_front (c ∷ cs) rest end s r =
-    Gap.more (goes_on c (cs ++ rest) (not_true (c == star) (here Starless c cs s))) (block_front cs rest end (rest_of Starless c cs s) r)
+    Gap.more (goes_on c (cs ++ rest) (not_true (c == 42) (here Starless c cs s))) (block_front cs rest end (rest_of Starless c cs s) r)
 
 never_front : (front rest : List ℕ) → is_stretch 0xD800 Starless front ≡ true → NeverCloses rest → NeverCloses (front ++ rest)
 never_front [] rest s r = r
 never_front (c ∷ cs) rest s r =
-    Gap.more (goes_on c (cs ++ rest) (not_true (c == star) (here Starless c cs s))) (never_front cs rest (rest_of Starless c cs s) r)
+    Gap.more (goes_on c (cs ++ rest) (not_true (c == 42) (here Starless c cs s))) (never_front cs rest (rest_of Starless c cs s) r)
 
 -- the part of an unquoted string that the cursor skips
 pub run_stretch : {old new : Cursor} {front more end : List ℕ} → PassesStretch Run old front new → RunOf (ahead new) more end → RunOf (ahead old) (front ++ more) end

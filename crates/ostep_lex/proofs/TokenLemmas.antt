@@ -2,14 +2,15 @@
 -- exclude each other, and gaps and tokens have unique ends.
 use Rattle.std.proofs.Common.{ℕ, Bool, true, false, ◌≡◌, ◌||◌, Some, refl, arith, List, subst, ◌<◌, [], ◌∷◌, ◌==◌, ap, ◌++◌, sym}
 use Rattle.std.proofs.lemmas.Bool.Decides.{nat_tests}
-use Rattle.ostep_lex.specs.Character.{is_white, is_run, is_quote, is_hexadecimal, backslash, greater_than}
+use Rattle.std.specs.Char.{is_digit}
+use Rattle.ostep_lex.specs.Character.{is_white, is_run, is_quote}
 use Rattle.ostep_lex.specs.Quoted.{is_raw, Run, Escape, Piece, Quoted}
 use Rattle.ostep_lex.specs.Lexeme.{Lexeme, mark_token, IsToken, Located}
 use Rattle.ostep_lex.specs.Stands.{is_of_data, begins_other, EscapeFault, QuotedFault, OctetsFault, FaultAt, FaultAfterGap}
 use Rattle.ostep_lex.specs.Gap.{LineComment, BlockComment, NeverCloses, GapPiece, Gap}
 use Rattle.ostep_lex.specs.declared.fault.LexFault.{LexFault}
 use Rattle.ostep_lex.specs.Encoding.{Offsets, offset}
-use Rattle.ostep_lex.specs.Digits.{begins_digit, octal_number}
+use Rattle.ostep_lex.specs.Digits.{begins_digit, number_from}
 use Rattle.ostep_lex.specs.Gap
 use Rattle.ostep_lex.specs.Quoted
 use Rattle.ostep_lex.specs.Octets
@@ -27,7 +28,7 @@ white-quote c w r = grind (arith, nat_tests)
 pub run-quote : (c : ℕ) → is_run c ≡ true → is_quote c ≡ true → ⊥
 run-quote c w r = grind (arith, nat_tests)
 
-pub white-hexadecimal : (c : ℕ) → is_white c ≡ true → is_hexadecimal c ≡ true → ⊥
+pub white-hexadecimal : (c : ℕ) → is_white c ≡ true → is_digit c 16 ≡ true → ⊥
 white-hexadecimal c w r = grind (arith, nat_tests)
 
 pub mark-white : (c : ℕ) (l : Lexeme) → mark_token c ≡ Some l → is_white c ≡ true → ⊥
@@ -39,7 +40,7 @@ mark-run c l m w = grind (arith, nat_tests)
 pub mark-quote : (c : ℕ) (l : Lexeme) → mark_token c ≡ Some l → is_quote c ≡ true → ⊥
 mark-quote c l m w = grind (arith, nat_tests)
 
-pub quote-backslash : (mark : ℕ) → is_quote mark ≡ true → (backslash == mark) ≡ true → ⊥
+pub quote-backslash : (mark : ℕ) → is_quote mark ≡ true → (92 == mark) ≡ true → ⊥
 quote-backslash mark q e = grind (arith, nat_tests)
 
 pub close-raw : (mark c : ℕ) → (c == mark) ≡ true → is_raw mark c ≡ true → ⊥
@@ -54,10 +55,10 @@ or_right true false e = refl
 or_right _ _ e = e
 
 pub of_data-white : (c : ℕ) → is_of_data c ≡ false → is_white c ≡ true → ⊥
-of_data-white c d w = cc (or_left (is_white c) (is_hexadecimal c) (or_left (is_white c || is_hexadecimal c) (c == greater_than) d))
+of_data-white c d w = cc (or_left (is_white c) (is_digit c 16) (or_left (is_white c || is_digit c 16) (c == 62) d))
 
-pub of_data-hexadecimal : (c : ℕ) → is_of_data c ≡ false → is_hexadecimal c ≡ true → ⊥
-of_data-hexadecimal c d w = cc (or_right (is_white c) (is_hexadecimal c) (or_left (is_white c || is_hexadecimal c) (c == greater_than) d))
+pub of_data-hexadecimal : (c : ℕ) → is_of_data c ≡ false → is_digit c 16 ≡ true → ⊥
+of_data-hexadecimal c d w = cc (or_right (is_white c) (is_digit c 16) (or_left (is_white c || is_digit c 16) (c == 62) d))
 
 pub unexpected-white : (c : ℕ) → begins_other c ≡ false → is_white c ≡ true → ⊥
 unexpected-white c d w = grind (arith, nat_tests)
@@ -156,7 +157,7 @@ OctetsPiece-same (Octets.pair {c = c} e h) (Octets.white f) = absurd (white-hexa
 OctetsPiece-same (Octets.pair e h) (Octets.pair f g) = record { means = refl; leaves = refl }
 
 -- the end of a data token is no piece
-greater_than-piece : {rest u a : List ℕ} → OctetsPiece (greater_than ∷ rest) u a → ⊥
+greater_than-piece : {rest u a : List ℕ} → OctetsPiece (62 ∷ rest) u a → ⊥
 greater_than-piece (Octets.white f) = cc
 greater_than-piece (Octets.pair f g) = cc
 
@@ -218,12 +219,12 @@ pub nothing-gapless : IsGapless []
 nothing-gapless x g = nothing-piece g
 
 -- a faulty escape is no escape
-no_digit-escape : {rest u a : List ℕ} → begins_digit 16 rest ≡ false → Escape (Quoted.unit_letter ∷ rest) u a → ⊥
+no_digit-escape : {rest u a : List ℕ} → begins_digit 16 rest ≡ false → Escape (85 ∷ rest) u a → ⊥
 no_digit-escape d (Quoted.octal e l) = cc
 no_digit-escape d (Quoted.unit e) = cc
 no_digit-escape d (Quoted.character e f) = cc
 
-too_high-escape : {rest u a : List ℕ} → begins_digit 8 rest ≡ true → 0x7f < (octal_number rest).value → Escape rest u a → ⊥
+too_high-escape : {rest u a : List ℕ} → begins_digit 8 rest ≡ true → 0x7f < (number_from 8 3 0 rest).value → Escape rest u a → ⊥
 too_high-escape d h (Quoted.octal e l) = omega arith
 too_high-escape d h (Quoted.unit e) = cc
 too_high-escape d h (Quoted.character e f) = cc
@@ -262,7 +263,7 @@ pub other-octets : {c : ℕ} {rest u a : List ℕ} → is_of_data c ≡ false �
 other-octets {c} e (Octets.white f) = of_data-white c e f
 other-octets {c} e (Octets.pair f g) = of_data-hexadecimal c e f
 
-odd-octets : {c : ℕ} {rest u a : List ℕ} → is_hexadecimal c ≡ true → begins_digit 16 rest ≡ false → OctetsPiece (c ∷ rest) u a → ⊥
+odd-octets : {c : ℕ} {rest u a : List ℕ} → is_digit c 16 ≡ true → begins_digit 16 rest ≡ false → OctetsPiece (c ∷ rest) u a → ⊥
 odd-octets {c} e d (Octets.white f) = white-hexadecimal c f e
 odd-octets e d (Octets.pair f g) = cc
 

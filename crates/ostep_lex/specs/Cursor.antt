@@ -6,8 +6,7 @@ use Rattle.ostep_lex.specs.Lexing.{BeginsWithTokens}
 use Rattle.std.specs.Str.{all_scalars}
 use Rattle.ostep_lex.specs.declared.fault.LexFault.{LexFault}
 use Rattle.ostep_lex.specs.declared.fault.LexFault.TheVariants.{BadUtf8, BadUtf16, OutOfMemory}
-use Rattle.std.specs.Char.{digit_value}
-use Rattle.ostep_lex.specs.Character.{is_hexadecimal}
+use Rattle.std.specs.Char.{is_digit, digit_value}
 use Rattle.ostep_lex.specs.Lexeme.{Lexeme, IsToken, Located}
 use Rattle.ostep_lex.specs.Quoted.{Escape, Piece, Quoted, Run}
 use Rattle.ostep_lex.specs.Octets.{OctetsPiece, Octets}
@@ -131,7 +130,7 @@ pub record PassesPairs (octets more : List ℕ) (old new : Cursor) : Type 0 wher
 pub record PassesDigit (value : ℕ) (old new : Cursor) : Type 0 where
   pub digit : ℕ
   pub first : ahead old ≡ digit ∷ ahead new
-  pub hexadecimal : is_hexadecimal digit ≡ true
+  pub hexadecimal : is_digit digit 16 ≡ true
   pub valued : value ≡ digit_value digit
   pub input : SameInput old new
 

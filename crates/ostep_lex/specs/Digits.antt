@@ -19,10 +19,3 @@ number_from base (suc count) high [] = record { value = high; after = [] }
 number_from base (suc count) high (c ∷ rest) =
     if is_digit c base then number_from base count (high * base + digit_value c) rest
     else record { value = high; after = c ∷ rest }
-
--- one to three octal digits, and one to four hexadecimal digits
-abbrev pub octal_number : List ℕ → Number
-octal_number text = number_from 8 3 0 text
-
-abbrev pub hexadecimal_number : List ℕ → Number
-hexadecimal_number text = number_from 16 4 0 text

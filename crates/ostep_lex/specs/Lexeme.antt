@@ -1,6 +1,7 @@
 -- Tokens and their spans.
-use Rattle.std.specs.Prelude.{◌≡◌, ℕ, true, false, ◌==◌, List, ◌∷◌, Option, Some, None}
-use Rattle.std.specs.Prelude.{if◌then◌else◌}
+use Rattle.std.specs.Prelude.{◌≡◌, ℕ, true, false, nat_eq, List, [], ◌∷◌, ◌++◌, zip, codes, Option}
+use Rattle.std.specs.Prelude.{Some}
+use Rattle.std.specs.Map.{lookup}
 use Rattle.ostep_lex.specs.declared.token.TokenKind.{TokenKind}
 use Rattle.ostep_lex.specs.declared.token.TokenKind.TheVariants.{BraceOpen, BraceClose, ParenOpen}
 use Rattle.ostep_lex.specs.declared.token.TokenKind.TheVariants.{ParenClose, Comma, Semicolon}
@@ -8,7 +9,7 @@ use Rattle.ostep_lex.specs.declared.token.TokenKind.TheVariants.{Equals, Text, O
 use Rattle.ostep_lex.specs.declared.token.Token.{Token}
 use Rattle.ostep_lex.specs.declared.token.PlainToken.{PlainToken}
 use Rattle.plist_value.specs.Texts.{units_of}
-use Rattle.ostep_lex.specs.Character.{less_than, is_run, is_quote}
+use Rattle.ostep_lex.specs.Character.{is_run, is_quote}
 use Rattle.ostep_lex.specs.Gap.{begins_comment}
 use Rattle.ostep_lex.specs.Quoted.{Run, Quoted}
 use Rattle.ostep_lex.specs.Octets.{Octets}
@@ -27,26 +28,19 @@ pub data Lexeme : Type 0 where
 -- the punctuation token of a character, if it is one
 abbrev pub mark_token : ℕ → Option Lexeme
 mark_token c =
-    if c == 123 then Some brace_open
-    else (if c == 125 then Some brace_close
-    else (if c == 40 then Some paren_open
-    else (if c == 41 then Some paren_close
-    else (if c == 44 then Some comma
-    else (if c == 59 then Some semicolon
-    else (if c == 61 then Some equals
-    else None))))))
+    lookup (nat_eq c) (zip (codes "{}(),;=")
+    (brace_open ∷ brace_close ∷ paren_open ∷ paren_close ∷ comma ∷ semicolon ∷ equals ∷ []))
 
 -- the text is a token, followed by the last list
 pub data IsToken : List ℕ → Lexeme → List ℕ → Type 0 where
   mark : {c : ℕ} {lexeme : Lexeme} {rest : List ℕ} → mark_token c ≡ Some lexeme
       → IsToken (c ∷ rest) lexeme rest
   run : {c : ℕ} {rest units after : List ℕ} → is_run c ≡ true → begins_comment (c ∷ rest) ≡ false
-      → Run rest units after
-      → IsToken (c ∷ rest) (text (c ∷ units)) after
+      → Run rest units after → IsToken (c ∷ rest) (text (c ∷ units)) after
   quoted : {c : ℕ} {rest units after : List ℕ} → is_quote c ≡ true → Quoted c rest units after
       → IsToken (c ∷ rest) (text units) after
   data_token : {rest bytes after : List ℕ} → Octets rest bytes after
-      → IsToken (less_than ∷ rest) (octets bytes) after
+      → IsToken (codes "<" ++ rest) (octets bytes) after
 
 -- a token, with the offset of its first byte and the offset after its last
 pub record Located : Type 0 where

@@ -1,20 +1,19 @@
 -- Pairs of hexadecimal digits, and the bytes that they encode.
 use Rattle.std.specs.Prelude.{◌≡◌, ℕ, ◌≤◌, ◌+◌, ◌*◌, true, List, [], ◌∷◌, ◌++◌, length, chars}
 use Rattle.std.specs.Prelude.{IsUtf8}
-use Rattle.std.specs.Char.{digit_value}
-use Rattle.ostep_lex.specs.Character.{is_hexadecimal}
+use Rattle.std.specs.Char.{is_digit, digit_value}
 use Rattle.ostep_lex.specs.declared.source.Source.{Source}
 use Rattle.ostep_lex.specs.Source.{characters_in, encoding_in, octets_in, IsWhole}
 
 -- a digit with this value
 pub record IsDigitOf (c value : ℕ) : Type 0 where
-  pub hexadecimal : is_hexadecimal c ≡ true
+  pub hexadecimal : is_digit c 16 ≡ true
   pub valued : value ≡ digit_value c
 
 -- pairs of digits, and their bytes
 pub data Pairs : List ℕ → List ℕ → Type 0 where
   none : Pairs [] []
-  more : {c d : ℕ} {digits octets : List ℕ} → is_hexadecimal c ≡ true → is_hexadecimal d ≡ true
+  more : {c d : ℕ} {digits octets : List ℕ} → is_digit c 16 ≡ true → is_digit d 16 ≡ true
       → Pairs digits octets
       → Pairs (c ∷ d ∷ digits) ((digit_value c * 16 + digit_value d) ∷ octets)
 

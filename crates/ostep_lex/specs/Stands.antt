@@ -1,7 +1,8 @@
 -- The faults of a text. Each relation is between the text at a position and the fault that is found
 -- on reading from there.
 use Rattle.std.specs.Prelude.{◌≡◌, ℕ, ◌<◌, Bool, true, false, ◌||◌, ◌==◌, List, [], ◌∷◌, Some, None}
-use Rattle.std.specs.Prelude.{nat_eq, codes}
+use Rattle.std.specs.Prelude.{◌++◌, nat_eq, codes}
+use Rattle.std.specs.Char.{is_digit}
 use Rattle.std.specs.List.{starts_with}
 use Rattle.ostep_lex.specs.declared.fault.LexFault.{LexFault}
 use Rattle.ostep_lex.specs.declared.fault.LexFault.TheVariants.{BadUtf8, XmlForm}
@@ -11,23 +12,22 @@ use Rattle.ostep_lex.specs.declared.fault.LexFault.TheVariants.{OctalRange, OddD
 use Rattle.ostep_lex.specs.declared.fault.LexFault.TheVariants.{BadUtf16, OutOfMemory}
 use Rattle.ostep_lex.specs.Encoding.{Spells, Offsets, offsets_of}
 use Rattle.ostep_lex.specs.Encoding.{offset, StopsAt, encoding_of, utf8}
-use Rattle.ostep_lex.specs.Character.{slash, star, less_than, greater_than, backslash, is_white}
-use Rattle.ostep_lex.specs.Character.{is_run, is_quote, is_hexadecimal}
-use Rattle.ostep_lex.specs.Digits.{begins_digit, octal_number}
+use Rattle.ostep_lex.specs.Character.{is_white, is_run, is_quote}
+use Rattle.ostep_lex.specs.Digits.{begins_digit, number_from}
 use Rattle.ostep_lex.specs.Gap.{Gap, NeverCloses}
-use Rattle.ostep_lex.specs.Quoted.{unit_letter, Piece}
+use Rattle.ostep_lex.specs.Quoted.{Piece}
 use Rattle.ostep_lex.specs.Octets.{OctetsPiece}
 use Rattle.ostep_lex.specs.Lexeme.{Lexeme, mark_token, Located}
 use Rattle.ostep_lex.specs.Lexing.{BeginsWithTokens}
 
 -- an escape, from its backslash on, in a string whose quote is at offset start
 pub data EscapeFault (p : Offsets) (start : ℕ) : List ℕ → LexFault → Type 0 where
-  cut_escape : EscapeFault p start (backslash ∷ []) (UnclosedString start)
+  cut_escape : EscapeFault p start (codes "\\") (UnclosedString start)
   no_digit : {rest : List ℕ} → begins_digit 16 rest ≡ false
-      → EscapeFault p start (backslash ∷ unit_letter ∷ rest)
-      (BadEscape (offset p (backslash ∷ unit_letter ∷ rest)))
-  too_high : {rest : List ℕ} → begins_digit 8 rest ≡ true → 0x7f < (octal_number rest).value
-      → EscapeFault p start (backslash ∷ rest) (OctalRange (offset p (backslash ∷ rest)))
+      → EscapeFault p start (codes "\\U" ++ rest)
+      (BadEscape (offset p (codes "\\U" ++ rest)))
+  too_high : {rest : List ℕ} → begins_digit 8 rest ≡ true → 0x7f < (number_from 8 3 0 rest).value
+      → EscapeFault p start (codes "\\" ++ rest) (OctalRange (offset p (codes "\\" ++ rest)))
 
 -- after a quote at offset start: pieces, and then no end or a faulty escape
 pub data QuotedFault (p : Offsets) (start mark : ℕ) : List ℕ → LexFault → Type 0 where
@@ -40,14 +40,14 @@ pub data QuotedFault (p : Offsets) (start mark : ℕ) : List ℕ → LexFault �
 
 -- whether whitespace, `>` or a pair of digits may begin with the character
 abbrev pub is_of_data : ℕ → Bool
-is_of_data c = is_white c || is_hexadecimal c || (c == greater_than)
+is_of_data c = is_white c || is_digit c 16 || (c == 62)
 
 -- after `<`: pieces, and then no end, a character not allowed in data, or a single digit
 pub data OctetsFault (p : Offsets) : List ℕ → LexFault → Type 0 where
   cut_data : OctetsFault p [] (BadData (offset p []))
   other : {c : ℕ} {rest : List ℕ} → is_of_data c ≡ false
       → OctetsFault p (c ∷ rest) (BadData (offset p (c ∷ rest)))
-  odd : {c : ℕ} {rest : List ℕ} → is_hexadecimal c ≡ true → begins_digit 16 rest ≡ false
+  odd : {c : ℕ} {rest : List ℕ} → is_digit c 16 ≡ true → begins_digit 16 rest ≡ false
       → OctetsFault p (c ∷ rest) (OddData (offset p (c ∷ rest)))
   piece : {text octets rest : List ℕ} {fault : LexFault} → OctetsPiece text octets rest
       → OctetsFault p rest fault
@@ -55,19 +55,19 @@ pub data OctetsFault (p : Offsets) : List ℕ → LexFault → Type 0 where
 
 -- whether the character begins whitespace, or a token other than punctuation
 abbrev pub begins_other : ℕ → Bool
-begins_other c = is_white c || is_run c || is_quote c || (c == less_than)
+begins_other c = is_white c || is_run c || is_quote c || (c == 60)
 
 -- at a position where a token or a comment should begin
 pub data FaultAt (p : Offsets) : List ℕ → LexFault → Type 0 where
   unexpected : {c : ℕ} {rest : List ℕ} → mark_token c ≡ None → begins_other c ≡ false
       → FaultAt p (c ∷ rest) (UnexpectedCharacter (offset p (c ∷ rest)))
   comment : {rest : List ℕ} → NeverCloses rest
-      → FaultAt p (slash ∷ star ∷ rest) (UnclosedComment (offset p (slash ∷ star ∷ rest)))
+      → FaultAt p (codes "/*" ++ rest) (UnclosedComment (offset p (codes "/*" ++ rest)))
   quoted : {c : ℕ} {rest : List ℕ} {fault : LexFault} → is_quote c ≡ true
       → QuotedFault p (offset p (c ∷ rest)) c rest fault
       → FaultAt p (c ∷ rest) fault
   data_token : {rest : List ℕ} {fault : LexFault} → OctetsFault p rest fault
-      → FaultAt p (less_than ∷ rest) fault
+      → FaultAt p (codes "<" ++ rest) fault
 
 -- after a gap
 pub data FaultAfterGap (p : Offsets) : List ℕ → LexFault → Type 0 where

@@ -3,7 +3,7 @@ use Rattle.std.specs.Prelude.{◌≡◌, ℕ, ◌≤◌, length, Bool, true, not
 use Rattle.std.specs.Prelude.{◌∷◌, ◌++◌}
 use Rattle.ostep_lex.specs.declared.stretch.Class.{Class}
 use Rattle.ostep_lex.specs.declared.stretch.Class.TheVariants.{Run, White, Raw, Line, Starless}
-use Rattle.ostep_lex.specs.Character.{is_run, is_white, is_line_end, star}
+use Rattle.ostep_lex.specs.Character.{is_run, is_white, is_line_end}
 use Rattle.ostep_lex.specs.Quoted.{is_raw}
 use Rattle.ostep_lex.specs.declared.source.Source.{Source}
 use Rattle.ostep_lex.specs.declared.source.ByteOrder.{ByteOrder}
@@ -16,7 +16,7 @@ belongs Run c = is_run c
 belongs White c = is_white c
 belongs (Raw mark) c = is_raw mark c
 belongs Line c = not (is_line_end c)
-belongs Starless c = not (c == star)
+belongs Starless c = not (c == 42)
 
 -- whether all are characters of the class below the limit
 abbrev pub is_stretch : ℕ → Class → List ℕ → Bool

@@ -1,6 +1,5 @@
 //! Whitespace and comments between tokens.
-ghost use Rattle.std.specs.Prelude.{◌≡◌, false, ◌∷◌, IsTrue, MatchOption, IfOk, IfErr};
-ghost use Rattle.ostep_lex.specs.Character.{slash as slash_code, star};
+ghost use Rattle.std.specs.Prelude.{◌≡◌, false, ◌++◌, codes, IsTrue, MatchOption, IfOk, IfErr};
 ghost use Rattle.ostep_lex.specs.Gap.{LineComment, BlockComment, NeverCloses};
 ghost use Rattle.ostep_lex.specs.Gap.{closes_comment, begins_gap};
 ghost use Rattle.ostep_lex.specs.Stands.{FaultAt, FaultAfterGap};
@@ -29,7 +28,7 @@ fn line_comment(cursor: Cursor<'_>) -> Cursor<'_>
 /// Returns the cursor after `*/`, if it is at the cursor.
 fn comment_end(cursor: Cursor<'_>) -> Option<Cursor<'_>>
     ensures { MatchOption result (closes_comment (ahead cursor.entry) ≡ false) (λ end.
-        (ahead cursor.entry ≡ star ∷ slash_code ∷ ahead end) × SameInput cursor.entry end) }
+        (ahead cursor.entry ≡ codes "*/" ++ ahead end) × SameInput cursor.entry end) }
 {
     cursor.after('*')?.after('/')
 }
@@ -53,7 +52,7 @@ fn block_comment(cursor: Cursor<'_>) -> Option<Cursor<'_>>
 /// Returns the cursor after the comment at the cursor, or `None` if there is no comment. `slash` is
 /// the cursor after the first slash.
 fn comment<'a>(cursor: Cursor<'a>, slash: Cursor<'a>) -> Result<Option<Cursor<'a>>, LexFault>
-    requires slash { ahead cursor ≡ slash_code ∷ ahead slash }
+    requires slash { ahead cursor ≡ codes "/" ++ ahead slash }
     requires input { SameInput cursor slash }
     ensures ok { IfOk result (λ found.
         MatchOption found (begins_gap (ahead cursor.entry) ≡ false) (PassesPiece cursor.entry)) }

@@ -1,6 +1,5 @@
 //! Data tokens.
 ghost use Rattle.std.specs.Prelude.{◌≡◌, ◌≢◌, ◌∷◌, false, MatchOption, IfOk, IfErr};
-ghost use Rattle.ostep_lex.specs.Character.{greater_than};
 ghost use Rattle.ostep_lex.specs.Digits.{begins_digit};
 ghost use Rattle.ostep_lex.specs.Stands.{OctetsFault};
 ghost use Rattle.ostep_lex.specs.Cursor.{ahead, offsets_in, SameInput, UnlessMemory};
@@ -29,7 +28,7 @@ fn push_octet<'a>(
     after: Cursor<'a>,
 ) -> Result<Cursor<'a>, LexFault>
     requires first { ahead cursor ≡ c ∷ ahead after }
-    requires open { c ≢ greater_than }
+    requires open { c ≢ 62 }
     requires input { SameInput cursor after }
     ensures ok { IfOk result (OctetsAppends octets.old.items octets.new.items cursor.entry) }
     ensures err { IfErr result (UnlessMemory

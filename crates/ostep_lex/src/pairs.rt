@@ -1,14 +1,14 @@
 //! Pairs of hexadecimal digits at the start of a text, found in its bytes.
 ghost use Rattle.std.specs.Prelude.{◌≡◌, false, MatchOption, IfSome, IfOk};
 ghost use Rattle.ostep_lex.specs.Pairs.{IsDigitOf, IsPair, AppendsPairs, AppendsFront};
-ghost use Rattle.ostep_lex.specs.Character.{is_hexadecimal};
+ghost use Rattle.std.specs.Char.{is_digit};
 
 use std::alloc::AllocError;
 
 /// Returns the value of the byte, if it is a hexadecimal digit.
 #[inline(always)]
 fn digit_of(octet: u8) -> Option<u8>
-    ensures { MatchOption result (is_hexadecimal octet ≡ false) (IsDigitOf octet) }
+    ensures { MatchOption result (is_digit octet 16 ≡ false) (IsDigitOf octet) }
 {
     match octet {
         b'0'..=b'9' => Some(octet - b'0'),

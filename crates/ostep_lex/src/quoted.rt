@@ -1,10 +1,10 @@
 //! Unquoted and quoted strings, with their escapes.
 ghost use Rattle.std.specs.Prelude.{◌≡◌, ◌==◌, ◌++◌, ◌∷◌, true, false, List, ℕ, OnOk, IfOk};
-ghost use Rattle.std.specs.Prelude.{IfErr};
+ghost use Rattle.std.specs.Prelude.{IfErr, codes};
 ghost use Rattle.std.specs.Char.Escape.{encode_utf16};
 ghost use Rattle.ostep_lex.specs.Digits.{begins_digit};
-ghost use Rattle.ostep_lex.specs.Quoted.{escaped, unit_letter};
-ghost use Rattle.ostep_lex.specs.Character.{backslash as backslash_code, is_quote};
+ghost use Rattle.ostep_lex.specs.Quoted.{escaped};
+ghost use Rattle.ostep_lex.specs.Character.{is_quote};
 ghost use Rattle.ostep_lex.specs.Stands.{EscapeFault, QuotedFault};
 ghost use Rattle.ostep_lex.specs.declared.stretch.Class.TheVariants.{Raw};
 ghost use Rattle.ostep_lex.specs.Cursor.{ahead, offsets_in, SameInput, UnlessMemory};
@@ -56,7 +56,7 @@ fn push_character(units: &mut Vec<u16>, c: char) -> Result<(), AllocError>
 
 /// Returns the character that an escape of this letter encodes. Any other character encodes itself.
 fn escaped_character(c: char) -> char
-    ensures { encode_utf16 result ≡ escaped c }
+    ensures { result ≡ escaped c }
 {
     match c {
         'a' => '\u{7}',
@@ -77,7 +77,7 @@ fn push_octal<'a>(
     backslash: Cursor<'a>,
     digits: Cursor<'a>,
 ) -> Result<Cursor<'a>, LexFault>
-    requires backslash { ahead backslash ≡ backslash_code ∷ ahead digits }
+    requires backslash { ahead backslash ≡ codes "\\" ++ ahead digits }
     requires digits { begins_digit 8 (ahead digits) ≡ true }
     requires input { SameInput backslash digits }
     ensures ok { IfOk result (EscapeAppends units.old.items units.new.items digits.entry) }
@@ -102,8 +102,8 @@ fn push_unit<'a>(
     letter: Cursor<'a>,
     digits: Cursor<'a>,
 ) -> Result<Cursor<'a>, LexFault>
-    requires backslash { ahead backslash ≡ backslash_code ∷ ahead letter }
-    requires letter { ahead letter ≡ unit_letter ∷ ahead digits }
+    requires backslash { ahead backslash ≡ codes "\\" ++ ahead letter }
+    requires letter { ahead letter ≡ codes "U" ++ ahead digits }
     requires input { (SameInput backslash letter) × SameInput letter digits }
     ensures ok { IfOk result (EscapeAppends units.old.items units.new.items letter.entry) }
     ensures err { (start : ℕ) → IfErr result (UnlessMemory
@@ -127,7 +127,7 @@ fn push_escape<'a>(
     backslash: Cursor<'a>,
     cursor: Cursor<'a>,
 ) -> Result<Cursor<'a>, LexFault>
-    requires backslash { ahead backslash ≡ backslash_code ∷ ahead cursor }
+    requires backslash { ahead backslash ≡ codes "\\" ++ ahead cursor }
     requires input { SameInput backslash cursor }
     ensures ok { IfOk result (EscapeAppends units.old.items units.new.items cursor.entry) }
     ensures err { IfErr result (UnlessMemory

@@ -14,8 +14,8 @@ use Rattle.ostep_text.specs.Phrase.{Phrase, a_string, some_data, a_list, a_table
 use Rattle.plist_value.specs.Writable.{is_writable, are_writable_items, are_writable_pairs}
 use Rattle.ostep_text.specs.Written.{written_data, is_plain, quoted_unit, written_text, written, written_items, written_pairs, are_alphanumeric}
 use Rattle.plist_value.specs.Digits.{two_digits}
-use Rattle.ostep_lex.specs.Character.{is_octal, is_run, is_white}
-use Rattle.ostep_lex.specs.Digits.{Number, hexadecimal_number, begins_digit}
+use Rattle.ostep_lex.specs.Character.{is_run, is_white}
+use Rattle.ostep_lex.specs.Digits.{Number, begins_digit, number_from}
 use Rattle.ostep_lex.specs.Quoted
 use Rattle.ostep_lex.specs.Quoted.{Piece, Quoted, escaped, is_raw, Run, begins_run}
 use Rattle.ostep_lex.specs.Octets
@@ -135,7 +135,7 @@ if-piece false xs ys units rest h k = k refl
 equal : (x y : ℕ) → (x == y) ≡ true → x ≡ y
 equal x y e = grind (arith, nat_tests)
 
-letter-piece : (unit c letter : ℕ) (rest : List ℕ) → (unit == c) ≡ true → is_octal letter ≡ false → (letter == 85) ≡ false → escaped letter ≡ c ∷ []
+letter-piece : (unit c letter : ℕ) (rest : List ℕ) → (unit == c) ≡ true → is_digit letter 8 ≡ false → (letter == 85) ≡ false → encode_utf16 (escaped letter) ≡ c ∷ []
     → Piece 34 (92 ∷ letter ∷ rest) (unit ∷ []) rest
 letter-piece unit c letter rest e o u g =
     subst (λ x. Piece 34 (92 ∷ letter ∷ rest) x rest) (g ∙ ap (λ x. x ∷ []) (sym (equal unit c e))) (Quoted.escape (Quoted.character o u))
@@ -153,23 +153,23 @@ digit-test : (d : ℕ) → d < 16 → is_digit (digit_char d) 16 ≡ true
 digit-test d h = let e : digit_value (digit_char d) ≡ d = digit_value-digit_char d (omega (arith, h)) in rw e (grind (arith, nat_tests))
 
 four_digits : (a b c d : ℕ) (rest : List ℕ) → is_digit a 16 ≡ true → is_digit b 16 ≡ true → is_digit c 16 ≡ true → is_digit d 16 ≡ true
-    → hexadecimal_number (a ∷ b ∷ c ∷ d ∷ rest) ≡ record { value = (((0 * 16 + digit_value a) * 16 + digit_value b) * 16 + digit_value c) * 16 + digit_value d; after = rest }
+    → number_from 16 4 0 (a ∷ b ∷ c ∷ d ∷ rest) ≡ record { value = (((0 * 16 + digit_value a) * 16 + digit_value b) * 16 + digit_value c) * 16 + digit_value d; after = rest }
 four_digits a b c d rest h i j k = rw (h, i, j, k) refl
 
 four_value : (a b c d : ℕ) (rest : List ℕ) → a < 16 → b < 16 → c < 16 → d < 16
-    → hexadecimal_number (digit_char a ∷ digit_char b ∷ digit_char c ∷ digit_char d ∷ rest) ≡ record { value = ((a * 16 + b) * 16 + c) * 16 + d; after = rest }
+    → number_from 16 4 0 (digit_char a ∷ digit_char b ∷ digit_char c ∷ digit_char d ∷ rest) ≡ record { value = ((a * 16 + b) * 16 + c) * 16 + d; after = rest }
 four_value a b c d rest h i j k =
     four_digits (digit_char a) (digit_char b) (digit_char c) (digit_char d) rest (digit-test a h) (digit-test b i) (digit-test c j) (digit-test d k)
     ∙ ap (λ x. record { value = x; after = rest })
     (rw (digit_value-digit_char a (omega (arith, h)), digit_value-digit_char b (omega (arith, i)), digit_value-digit_char c (omega (arith, j)), digit_value-digit_char d (omega (arith, k))) (omega arith))
 
 unit-number : (unit : ℕ) (rest : List ℕ) → unit < 65536
-    → hexadecimal_number (two_digits (unit / 256) ++ (two_digits (unit % 256) ++ rest)) ≡ record { value = unit; after = rest }
+    → number_from 16 4 0 (two_digits (unit / 256) ++ (two_digits (unit % 256) ++ rest)) ≡ record { value = unit; after = rest }
 unit-number unit rest h =
     four_value (unit / 256 / 16) (unit / 256 % 16) (unit % 256 / 16) (unit % 256 % 16) rest (omega (arith, h)) (omega (arith, h)) (omega (arith, h)) (omega (arith, h))
     ∙ ap (λ x. record { value = x; after = rest }) (omega (arith, h))
 
-number-escape : (digits : List ℕ) (unit : ℕ) (rest : List ℕ) → begins_digit 16 digits ≡ true → hexadecimal_number digits ≡ record { value = unit; after = rest }
+number-escape : (digits : List ℕ) (unit : ℕ) (rest : List ℕ) → begins_digit 16 digits ≡ true → number_from 16 4 0 digits ≡ record { value = unit; after = rest }
     → Piece 34 (92 ∷ 85 ∷ digits) (unit ∷ []) rest
 number-escape digits unit rest b e =
     let P : Number → Type 0 = λ n. Piece 34 (92 ∷ 85 ∷ digits) (n.value ∷ []) n.after in

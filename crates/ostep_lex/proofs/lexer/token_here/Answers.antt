@@ -1,6 +1,5 @@
 use Rattle.std.proofs.Common.{◌≡◌, ◌==◌, false, None, sym, subst, arith, ◌∙◌}
 use Rattle.std.proofs.lemmas.Bool.Decides.{nat_tests}
-use Rattle.ostep_lex.specs.Character.{less_than}
 use Rattle.ostep_lex.specs.Lexeme
 use Rattle.ostep_lex.specs.Lexeme.{IsToken, lexeme_of, mark_token}
 use Rattle.ostep_lex.specs.Stands.{QuotedFault, OctetsFault, FaultAt}
@@ -49,6 +48,6 @@ returns-then-c-eq60-clause-ok c = record {
 
 pub returns-clause-err : goal.returns-clause-err
 returns-clause-err c n =
-    let other : (c.in-Some.c == less_than) ≡ false = grind (arith, nat_tests) in
+    let other : (c.in-Some.c == 60) ≡ false = grind (arith, nat_tests) in
     let mark : mark_token c.in-Some.c ≡ None = sym c.in_default-mark_token.ensures in
     unexpected_fault _ _ _ _ _ c.in-Some.ensures.0 mark (sym c.if-is_run.ensures) (sym c.if-is_quote.ensures) other c.requires c.offset-2.ensures

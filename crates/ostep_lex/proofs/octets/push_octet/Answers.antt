@@ -1,6 +1,5 @@
 use Rattle.std.proofs.Common.{◌≡◌, ◌==◌, false, sym, arith, append-nil, ◌∙◌}
 use Rattle.std.proofs.lemmas.Bool.Decides.{nat_tests}
-use Rattle.ostep_lex.specs.Character.{greater_than}
 use Rattle.ostep_lex.proofs.PieceSteps.{piece_white, piece_pair, other_fault, odd_fault}
 use Rattle.ostep_lex.proofs.octets.push_octet.Goals as goal
 
@@ -14,7 +13,7 @@ returns-then-is_white-clause-ok c = record {
 
 pub returns-in_default-clause-err : goal.returns-in_default-clause-err
 returns-in_default-clause-err c n =
-    let inside : (c.args.c == greater_than) ≡ false = grind (arith, nat_tests) in
+    let inside : (c.args.c == 62) ≡ false = grind (arith, nat_tests) in
     other_fault _ _ _ _ _ c.requires.first (sym c.if-is_white.ensures) c.in_default.ensures inside c.offset.ensures
 
 pub returns-in_default-digit-clause-err : goal.returns-in_default-digit-clause-err

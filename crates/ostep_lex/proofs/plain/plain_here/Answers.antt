@@ -1,7 +1,6 @@
 use Rattle.std.proofs.Common.{◌≡◌, ◌==◌, false, sym, arith, ◌∙◌}
 use Rattle.std.proofs.lemmas.Bool.Decides.{nat_tests}
 use Rattle.std.proofs.lemmas.Option.{IfSome_then}
-use Rattle.ostep_lex.specs.Character.{slash}
 use Rattle.ostep_lex.proofs.LexerSteps.{token_run, token_quoted, run_gapless}
 use Rattle.ostep_lex.proofs.plain.plain_here.Goals as goal
 
@@ -13,7 +12,7 @@ returns-then-is_quote c = IfSome_then c.plain_quoted.result c.plain_quoted.ensur
 
 pub returns-then-c-ne47 : goal.returns-then-c-ne47
 returns-then-c-ne47 c =
-    let other : (c.in_ok-c.c == slash) ≡ false = grind (arith, nat_tests) in
+    let other : (c.in_ok-c.c == 47) ≡ false = grind (arith, nat_tests) in
     let gapless = run_gapless _ _ _ c.in_ok-c.ensures.0 (sym c.if-is_run.ensures) other in
     IfSome_then c.plain_run.result c.plain_run.ensures (λ found p. record {
       token = token_run _ _ _ _ _ c.in_ok-c.ensures.0 (sym c.if-is_run.ensures) gapless p.run;

@@ -1,7 +1,7 @@
 use Rattle.std.proofs.Common.{◌∙◌, ◌≡◌, ◌==◌, ◌++◌, false, sym, ap, arith}
 use Rattle.std.proofs.lemmas.Bool.Decides.{nat_tests}
-use Rattle.ostep_lex.specs.Character.{is_octal}
-use Rattle.ostep_lex.specs.Quoted.{unit_letter}
+use Rattle.std.specs.Char.{is_digit}
+use Rattle.std.specs.Char.Escape.{encode_utf16}
 use Rattle.ostep_lex.proofs.PieceSteps.{escape_character, cut_fault}
 use Rattle.ostep_lex.proofs.quoted.push_escape.Goals as goal
 
@@ -10,11 +10,11 @@ returns-in_default-clause-err c n = cut_fault _ _ _ _ c.requires.backslash c.in_
 
 pub returns-clause-ok : goal.returns-clause-ok
 returns-clause-ok c =
-    let digit : is_octal c.in-Some.c ≡ false = sym c.if-is_digit.ensures.value in
-    let letter : (c.in-Some.c == unit_letter) ≡ false = grind (arith, nat_tests) in
+    let digit : is_digit c.in-Some.c 8 ≡ false = sym c.if-is_digit.ensures.value in
+    let letter : (c.in-Some.c == 85) ≡ false = grind (arith, nat_tests) in
     record {
       piece = _;
       escape = escape_character _ _ _ c.in-Some.ensures.0 digit letter;
-      appended = c.in_ok-push_character.ensures ∙ ap (λ w. c.args.units.now.items ++ w) c.escaped_character.ensures;
+      appended = c.in_ok-push_character.ensures ∙ ap (λ w. c.args.units.now.items ++ encode_utf16 w) c.escaped_character.ensures;
       input = c.in-Some.ensures.1;
     }

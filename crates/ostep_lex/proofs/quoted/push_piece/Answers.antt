@@ -1,7 +1,6 @@
 use Rattle.std.proofs.Common.{◌≡◌, ◌==◌, false, arith, ◌∙◌}
 use Rattle.std.proofs.lemmas.Result.{IfOk-weaker}
 use Rattle.std.proofs.lemmas.Bool.Decides.{nat_tests}
-use Rattle.ostep_lex.specs.Character.{backslash}
 use Rattle.ostep_lex.specs.Cursor.{EscapeAppends, PieceAppends}
 use Rattle.ostep_lex.proofs.PieceSteps.{piece_raw, piece_escape}
 use Rattle.ostep_lex.proofs.quoted.push_piece.Goals as goal
@@ -21,7 +20,7 @@ returns-then-c-eq92-clause-ok c mark m =
 
 pub returns-clause-ok : goal.returns-clause-ok
 returns-clause-ok c mark m =
-    let other : (c.args.c == backslash) ≡ false = grind (arith, nat_tests) in
+    let other : (c.args.c == 92) ≡ false = grind (arith, nat_tests) in
     record {
       units_of = _;
       piece = piece_raw mark _ _ _ c.requires.first other m;
