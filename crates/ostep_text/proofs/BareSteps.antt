@@ -26,6 +26,7 @@ use Rattle.ostep_text.specs.Machine
 use Rattle.ostep_text.specs.Machine.{runs, at_front, begun}
 use Rattle.ostep_text.specs.Reading.{Front, AreBefore, HasRead, IsLeft, MayRefuse, ReadsRow, Takes, TakesPairs, TakesRow}
 use Rattle.ostep_text.specs.Due.{ValueDue, RowValueDue, RowDue}
+use Rattle.ostep_text.proofs.Places.{is-text}
 use Rattle.ostep_text.proofs.MachineLemmas.{stays-dead}
 use Rattle.ostep_text.proofs.PhraseSteps.{push_row, rows-more}
 use Rattle.ostep_text.proofs.SortingSteps.{reordered-has}
@@ -89,17 +90,13 @@ bare-phrase b = bare_table (b.spells []) b.due.sorted
 
 pub bare-text : {octets : List ℕ} {left : Budget} {pairs : Pairs} {reader : Reader} (b : BareRead octets left pairs reader) → IsLeft left 511 (opened nothing) → HasTokens octets b.tokens
     → IsText octets (table pairs)
-bare-text {pairs = pairs} b i t = record {
-  tokens = b.tokens;
-  has = t;
-  phrase = subst (λ ls. TopPhrase ls (table pairs)) (sym (before-are b.tokens b.whole b.before)) (bare-phrase b);
-  is_plist = b.taken.valid;
-  fits = record {
-    nodes_fit = omega (arith, i.nodes_left, b.taken.spent.nodes_left);
-    depth_fits = omega (arith, b.taken.deep);
-    payload_fits = omega (arith, i.payload_left, b.taken.spent.payload_left);
-  };
-}
+bare-text {pairs = pairs} b i t =
+    is-text (table pairs) b.tokens t (subst (λ ls. TopPhrase ls (table pairs)) (sym (before-are b.tokens b.whole b.before)) (bare-phrase b)) b.taken.valid
+    (record {
+      nodes_fit = omega (arith, i.nodes_left, b.taken.spent.nodes_left);
+      depth_fits = omega (arith, b.taken.deep);
+      payload_fits = omega (arith, i.payload_left, b.taken.spent.payload_left);
+    })
 
 pub bare-ends : {octets : List ℕ} {left : Budget} {pairs : Pairs} {reader : Reader} (b : BareRead octets left pairs reader) (l : Lexeme)
     → Machine.row_or_end Machine.bare l ≡ Machine.dead → (rest : List Lexeme) → runs Machine.front (b.whole (l ∷ rest)) ≡ Machine.dead
@@ -161,23 +158,15 @@ first-row {mid = mid} key v reader i s t u r = record {
 -- a string alone
 pub lone-text : {octets : List ℕ} (at : Located) (units : List ℕ) → at.lexeme ≡ string units → HasTokens octets (at ∷ []) → AreUnits units → 2 * length units ≤ MAX_PAYLOAD
     → IsText octets (scalar (text units))
-lone-text at units l t u m = record {
-  tokens = at ∷ [];
-  has = t;
-  phrase = subst (λ x. TopPhrase (x ∷ []) (scalar (text units))) (sym l) (a_value a_string);
-  is_plist = u;
-  fits = record { nodes_fit = omega arith; depth_fits = omega arith; payload_fits = m };
-}
+lone-text at units l t u m =
+    is-text (scalar (text units)) (at ∷ []) t (subst (λ x. TopPhrase (x ∷ []) (scalar (text units))) (sym l) (a_value a_string)) u
+    (record { nodes_fit = omega arith; depth_fits = omega arith; payload_fits = m })
 
 -- a text without tokens
 pub empty-text : {octets : List ℕ} → HasTokens octets [] → IsText octets (table no_pairs)
-empty-text t = record {
-  tokens = [];
-  has = t;
-  phrase = bare_table rows_end (record { same = Sorting.none; ascending = tt });
-  is_plist = tt;
-  fits = record { nodes_fit = omega arith; depth_fits = omega arith; payload_fits = omega arith };
-}
+empty-text t =
+    is-text (table no_pairs) [] t (bare_table rows_end (record { same = Sorting.none; ascending = tt })) tt
+    (record { nodes_fit = omega arith; depth_fits = omega arith; payload_fits = omega arith })
 
 -- a value at the start, with all of the limits left
 pub whole-left : (left : Budget) → left.nodes ≡ MAX_NODES → left.payload ≡ MAX_PAYLOAD → IsLeft left MAX_DEPTH nothing

@@ -14,14 +14,16 @@ use Rattle.ostep_text.specs.Text.{IsText, IsNoText, lexemes}
 use Rattle.ostep_text.specs.Stands
 use Rattle.ostep_text.specs.Stands.{Splits, BeginsAt, HasKeyTwice, IsTooDeep, HasTooManyNodes, HasTooMuchPayload, IsUnfinished, HasJunk}
 use Rattle.ostep_text.specs.Laws.{FaultyIsNoText}
+use Rattle.ostep_text.proofs.Places.{placed}
 use Rattle.ostep_text.proofs.WholeLemmas.{NodeWithin, rows-there, row-once, node-within}
 
 -- the tokens before and after an offset of a text together are a phrase of its value
 split-phrase : {octets : List ℕ} {at : ℕ} {before from : List Lexeme} {v : Plist} → OneLexing → Splits octets at before from → IsText octets v → TopPhrase (before ++ from) v
 split-phrase {octets} {before = before} {from = from} {v = v} one s t =
-    let same : lexemes t.tokens ≡ lexemes (s.tokens ++ s.others) = ap lexemes (one octets t.tokens (s.tokens ++ s.others) t.has s.has) in
+    let p = placed t in
+    let same : lexemes p.tokens ≡ lexemes (s.tokens ++ s.others) = ap lexemes (one octets p.tokens (s.tokens ++ s.others) p.has s.has) in
     let apart : lexemes (s.tokens ++ s.others) ≡ lexemes s.tokens ++ lexemes s.others = map-append _ s.tokens s.others in
-    let is : lexemes t.tokens ≡ before ++ from = cc (same, apart, s.before_are, s.from_are) in
+    let is : t.tokens ≡ before ++ from = cc (p.are, same, apart, s.before_are, s.from_are) in
     subst (λ x. TopPhrase x v) is t.phrase
 
 begins-within : {octets : List ℕ} {at : ℕ} {b : Before} {from : List Lexeme} {v : Plist} → OneLexing → BeginsAt octets at b from → IsText octets v → NodeWithin b from v
@@ -50,7 +52,7 @@ junk-none : {octets : List ℕ} {at : ℕ} → OneLexing → HasJunk octets at �
 junk-none one (Stands.after_phrase {others = others} s p m) v t = m (others, (v, rw append_assoc (split-phrase one s t)))
 
 tokens-none : {octets : List ℕ} → FaultyHasNone → (fault : LexFault) → StandsInTokens octets fault → ¬ (fault ≡ tokens.OutOfMemory) → IsNoText octets
-tokens-none {octets} none fault s n v t = none octets fault s n t.tokens t.has
+tokens-none {octets} none fault s n v t = let p = placed t in none octets fault s n p.tokens p.has
 
 pub faulty_is_no_text : OneLexing → FaultyHasNone → FaultyIsNoText
 faulty_is_no_text one none octets (BadUtf8 at) s n = tokens-none none (tokens.BadUtf8 at) s (λ e. cc e)

@@ -1,4 +1,5 @@
 pub mod Rows
+pub mod Places
 pub mod SortedLemmas
 pub mod PhraseLemmas
 pub mod SizeLemmas

@@ -13,6 +13,7 @@ use Rattle.ostep_lex.proofs.Rows.{at}
 use Rattle.ostep_text.specs.Sorting
 use Rattle.ostep_text.specs.Phrase
 use Rattle.ostep_text.specs.Phrase.{TopPhrase}
+use Rattle.ostep_text.specs.Text
 use Rattle.ostep_text.specs.Text.{IsText, lexemes}
 use Rattle.ostep_text.specs.Begun
 use Rattle.ostep_text.specs.Begun.{NodeAt}
@@ -72,21 +73,19 @@ one_unit unit h (suc i) = lit< tt
 pub table_text : IsText (codes "{b=a;a=b;}") (table two_rows)
 unfolding encode_utf8
 table_text = record {
-  tokens = at brace_open 0 1 ∷ at b 1 2 ∷ at equals 2 3 ∷ at a 3 4 ∷ at semicolon 4 5 ∷ at a 5 6 ∷ at equals 6 7 ∷ at b 7 8 ∷ at semicolon 8 9 ∷ at brace_close 9 10 ∷ [];
-  has = record {
-    text = codes "{b=a;a=b;}";
-    spells = record { scalars = refl; spelled = refl };
-    lexes = next Gap.none (Lexeme.mark refl)
-        (next Gap.none (Lexeme.run refl refl (Quoted.stop refl))
-        (next Gap.none (Lexeme.mark refl)
-        (next Gap.none (Lexeme.run refl refl (Quoted.stop refl))
-        (next Gap.none (Lexeme.mark refl)
-        (next Gap.none (Lexeme.run refl refl (Quoted.stop refl))
-        (next Gap.none (Lexeme.mark refl)
-        (next Gap.none (Lexeme.run refl refl (Quoted.stop refl))
-        (next Gap.none (Lexeme.mark refl)
-        (next Gap.none (Lexeme.mark refl) (none Gap.none))))))))));
-  };
+  text = codes "{b=a;a=b;}";
+  spells = record { scalars = refl; spelled = refl };
+  tokens = brace_open ∷ b ∷ equals ∷ a ∷ semicolon ∷ a ∷ equals ∷ b ∷ semicolon ∷ brace_close ∷ [];
+  are = Text.next Gap.none (Lexeme.mark refl)
+      (Text.next Gap.none (Lexeme.run refl refl (Quoted.stop refl))
+      (Text.next Gap.none (Lexeme.mark refl)
+      (Text.next Gap.none (Lexeme.run refl refl (Quoted.stop refl))
+      (Text.next Gap.none (Lexeme.mark refl)
+      (Text.next Gap.none (Lexeme.run refl refl (Quoted.stop refl))
+      (Text.next Gap.none (Lexeme.mark refl)
+      (Text.next Gap.none (Lexeme.run refl refl (Quoted.stop refl))
+      (Text.next Gap.none (Lexeme.mark refl)
+      (Text.next Gap.none (Lexeme.mark refl) (Text.none Gap.none))))))))));
   phrase = sorted_table;
   is_plist = (one_unit 97 (lit< tt), one_unit 98 (lit< tt), refl, (one_unit 98 (lit< tt), one_unit 97 (lit< tt), tt, tt));
   fits = record { nodes_fit = lit≤ tt; depth_fits = lit≤ tt; payload_fits = lit≤ tt };
@@ -94,8 +93,10 @@ table_text = record {
 
 pub empty_text : IsText [] (table no_pairs)
 empty_text = record {
+  text = [];
+  spells = record { scalars = refl; spelled = refl };
   tokens = [];
-  has = record { text = []; spells = record { scalars = refl; spelled = refl }; lexes = none Gap.none };
+  are = Text.none Gap.none;
   phrase = Phrase.bare_table Phrase.rows_end (record { same = Sorting.none; ascending = tt });
   is_plist = tt;
   fits = record { nodes_fit = lit≤ tt; depth_fits = lit≤ tt; payload_fits = lit≤ tt };

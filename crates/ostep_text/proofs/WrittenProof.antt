@@ -20,6 +20,7 @@ use Rattle.ostep_lex.specs.Lexing.{none}
 use Rattle.ostep_text.specs.Phrase.{TopPhrase, a_value}
 use Rattle.ostep_text.specs.Laws.{IsShortText, WrittenIsText}
 use Rattle.ostep_text.proofs.PhraseSteps.{neither}
+use Rattle.ostep_text.proofs.Places.{is-text}
 use Rattle.ostep_text.proofs.WrittenLexing.{both, value-phrase, value-short, Lexed, value-lexed}
 
 -- characters that UTF-8 encodes in one byte
@@ -166,13 +167,8 @@ short-text v valid fits w =
     let octets : List ℕ = written v ++ codes "\n" in
     let d : Lexed (offsets_of octets) octets _ = value-lexed (offsets_of octets) v (10 ∷ []) [] valid w refl (record { tokens = []; lexes = none (Gap.piece (Gap.white refl) Gap.none); are = refl }) in
     record {
-      is_text = record {
-        tokens = d.tokens;
-        has = record { text = octets; spells = ascii-spells octets (newline-ascii v valid); lexes = d.lexes };
-        phrase = subst (λ ls. TopPhrase ls v) (sym d.are) (a_value (value-phrase v [] valid w));
-        is_plist = valid;
-        fits = fits;
-      };
+      is_text = is-text v d.tokens (record { text = octets; spells = ascii-spells octets (newline-ascii v valid); lexes = d.lexes })
+          (subst (λ ls. TopPhrase ls v) (sym d.are) (a_value (value-phrase v [] valid w))) valid fits;
       not_binary = not-binary v;
       short = rw length-append (omega (arith, value-short v w));
     }

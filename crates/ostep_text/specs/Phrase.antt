@@ -41,8 +41,7 @@ mutual
   pub data RowsPhrase : List Lexeme → Pairs → List Lexeme → Type 0 where
     rows_end : {rest : List Lexeme} → RowsPhrase rest no_pairs rest
     a_row : {key : List ℕ} {v : Plist} {rows : Pairs} {tokens others rest : List Lexeme}
-        → RowPhrase tokens key v others
-        → RowsPhrase others rows rest → has_key key rows ≡ false
+        → RowPhrase tokens key v others → RowsPhrase others rows rest → has_key key rows ≡ false
         → RowsPhrase tokens (pair key v rows) rest
 
 -- All tokens of a text: a phrase, or the rows of a dictionary without its braces. No tokens are the

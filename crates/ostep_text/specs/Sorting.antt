@@ -18,8 +18,7 @@ pub data StandsAmong (key : List ℕ) (v : Plist) : Pairs → Pairs → Type 0 w
 pub data AreReordered : Pairs → Pairs → Type 0 where
   none : AreReordered no_pairs no_pairs
   row : {key : List ℕ} {v : Plist} {rows others all : Pairs} → AreReordered rows others
-      → StandsAmong key v others all
-      → AreReordered (pair key v rows) all
+      → StandsAmong key v others all → AreReordered (pair key v rows) all
 
 -- each key is below the next
 abbrev pub IsAscending : Pairs → Type 0

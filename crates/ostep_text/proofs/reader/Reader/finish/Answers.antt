@@ -5,6 +5,7 @@ use Rattle.ostep_text.specs.Phrase.{a_value}
 use Rattle.ostep_text.specs.Stands.{Stands}
 use Rattle.ostep_text.specs.Reading.{HasRead}
 use Rattle.ostep_lex.proofs.Exits.{passed_on}
+use Rattle.ostep_text.proofs.Places.{is-text}
 use Rattle.ostep_text.proofs.Standing.{junk-at, value-ends}
 use Rattle.ostep_text.proofs.ReadSteps.{whole-phrase}
 use Rattle.ostep_text.proofs.reader.Reader.finish.Goals as goal
@@ -16,7 +17,7 @@ returns-in_err-next-clause-stands c octets first v r e =
 pub returns-in-None-clause-read : goal.returns-in-None-clause-read
 returns-in-None-clause-read c octets first v m r p f =
     let all : HasTokens octets r.reads.all = rw c.in-None.is at (c.in_ok-next.ensures.read octets r.reads.all r.reads.has) in
-    (v, m, record { tokens = r.reads.all; has = all; phrase = whole-phrase r; is_plist = p; fits = f })
+    (v, m, is-text v r.reads.all all (whole-phrase r) p f)
 
 pub returns-in-Some-clause-stands : goal.returns-in-Some-clause-stands
 returns-in-Some-clause-stands c octets first v r e =
