@@ -1,5 +1,5 @@
 -- The binary file of an input encodes the value of the input, and is refused as the input is.
-use Rattle.std.proofs.Common.{◌≡◌, ◌≢◌, ◌∙◌, false, true, inl, inr, refl, subst, sym, List, ℕ}
+use Rattle.std.proofs.Common.{◌≡◌, ◌≢◌, ◌∙◌, false, true, refl, subst, sym, List, ℕ}
 use Rattle.plist_value.specs.Plist.{Plist}
 use Rattle.plist_object.specs.Layout.{trailer_of}
 use Rattle.plist_object.specs.Spelled.{IsBinary}
@@ -15,7 +15,7 @@ use Rattle.plist_forms.specs.Judged.{Encodes, IsReadFrom, octets_in}
 use Rattle.plist_forms.specs.Refusals.{IsRefused}
 use Rattle.plist_forms.specs.declared.judged.Binary.{Binary}
 use Rattle.plist_forms.specs.declared.judged.Binary.TheVariants.{Input, Draft}
-use Rattle.plist_forms.proofs.Accepting.{accepted_text}
+use Rattle.plist_forms.proofs.Accepting.{accepted_text, as_binary, as_text}
 use Rattle.plist_forms.proofs.Refusing.{binary_refused}
 use Rattle.plist_forms.proofs.Writable.{text_writable}
 
@@ -26,10 +26,10 @@ one_value f v w a b = same_value f (trailer_of f).top v w a.valid b.valid a.spel
 -- what the file encodes is the value of the input
 pub read_value : {I : Type 0} (items : I → List ℕ) (input : List ℕ) (file : Binary I) → IsReadFrom items input file
     → (v : Plist) → IsBinary (octets_in items file) v → IsAccepted input v
-read_value items input (Input owner) read v is = inl (read.0, subst (λ f. IsBinary f v) read.1 is)
+read_value items input (Input owner) read v is = as_binary input v read.0 (subst (λ f. IsBinary f v) read.1 is)
 read_value items input (Draft draft) read v is =
     let drafted = read.1 in
-    inr (read.0, subst (IsText input) (one_value draft.items drafted.0 v drafted.1.1 is) drafted.1.0)
+    as_text input v read.0 (subst (IsText input) (one_value draft.items drafted.0 v drafted.1.1 is) drafted.1.0)
 
 -- a text's value has a text
 pub encoded_writable : (input file : List ℕ) → begins_as_binary input ≡ false → Encodes input file

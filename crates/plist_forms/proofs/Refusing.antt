@@ -1,5 +1,5 @@
 -- A reader's refusal as one of this crate.
-use Rattle.std.proofs.Common.{◌≡◌, ◌≢◌, ◌∙◌, true, false, ap, inl, inr, refl, subst, sym, Err, IfErr, List, Ok, Result, ℕ}
+use Rattle.std.proofs.Common.{◌≡◌, ◌≢◌, true, false, ap, refl, subst, sym, Err, IfErr, List, Ok, Result, ℕ}
 use Rattle.std.specs.Result.{IsErrAnd}
 use Rattle.plist_value.specs.Plist.{Plist}
 use Rattle.plist_object.specs.Spelled.{IsBinary}
@@ -14,6 +14,7 @@ use Rattle.plist_forms.specs.Accepted.{IsAccepted, begins_as_binary}
 use Rattle.plist_forms.specs.Fault.{code_of, fault_for, text_fault_for}
 use Rattle.plist_forms.specs.Refusals.{FaultStands, IsRefused}
 use Rattle.plist_forms.specs.declared.faults.Fault.{Fault}
+use Rattle.plist_forms.proofs.Accepting.{accepted_binary, accepted_text}
 
 text_stands : (octets : List ℕ) → begins_as_binary octets ≡ false → (fault : TextFault)
     → of_text.Stands octets fault → FaultStands octets (text_fault_for fault)
@@ -29,8 +30,7 @@ text_refused octets begins fault stands none = record {
 }
   where
     go : fault ≢ text.OutOfMemory → (v : Plist) → IsAccepted octets v → ⊥
-    go other v (inl accepted) = let no : true ≡ false = sym accepted.0 ∙ begins in cc
-    go other v (inr accepted) = none other v accepted.1
+    go other v accepted = none other v (accepted_text octets v begins accepted)
 
 binary_stands : (octets : List ℕ) → begins_as_binary octets ≡ true → (fault : BinaryFault)
     → of_binary.Stands octets fault → FaultStands octets (fault_for fault)
@@ -46,8 +46,7 @@ binary_refused octets begins fault stands none = record {
 }
   where
     go : fault ≢ binary.OutOfMemory → (v : Plist) → IsAccepted octets v → ⊥
-    go other v (inl accepted) = none other v accepted.1
-    go other v (inr accepted) = let no : true ≡ false = sym begins ∙ accepted.0 in cc
+    go other v accepted = none other v (accepted_binary octets v begins accepted)
 
 -- a call that fails with this refusal
 pub failed_as : {A : Type 0} (Cause : Fault → Type 0) (refusal : Fault) (result : Result A Fault)

@@ -39,5 +39,4 @@ pub record IsHeadline (v w : Plist) : Type 0 where
   pub own : (u : Plist) → IsAccepted (canon v) u → canon u ≡ canon v
 
 abbrev pub Headline : Type 0
-Headline =
-    (a b : List ℕ) (v w : Plist) → IsAccepted a v → IsAccepted b w → IsHeadline v w
+Headline = (a b : List ℕ) (v w : Plist) → IsAccepted a v → IsAccepted b w → IsHeadline v w

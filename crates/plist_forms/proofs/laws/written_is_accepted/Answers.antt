@@ -1,7 +1,7 @@
-use Rattle.std.proofs.Common.{inr}
+use Rattle.plist_forms.proofs.Accepting.{as_text}
 use Rattle.plist_forms.proofs.laws.written_is_accepted.Goals as goal
 
 pub returns : goal.returns
 returns c = λ v octets valid fits is.
     let written = c.written_is_text.ensures v octets valid fits is in
-    inr (written.not_binary, written.is_text)
+    as_text octets v written.not_binary written.is_text

@@ -1,7 +1,8 @@
-use Rattle.std.proofs.Common.{◌≡◌, ◌∙◌, ap, inr, subst, sym, List, ℕ}
+use Rattle.std.proofs.Common.{◌≡◌, ◌∙◌, ap, subst, sym, List, ℕ}
 use Rattle.plist_object.specs.Spelled.{IsBinary}
 use Rattle.plist_object.specs.Views.{octets_of}
 use Rattle.plist_forms.specs.Fault.{fault_for}
+use Rattle.plist_forms.proofs.Accepting.{as_binary, as_text}
 use Rattle.plist_forms.proofs.Judging.{encoded_writable}
 use Rattle.plist_forms.proofs.Refusing.{binary_refused, refused_as}
 use Rattle.plist_forms.proofs.judged.Binary.judged.Goals as goal
@@ -15,6 +16,18 @@ returns-in_err-judge_file-in-Input-clause-refused g c = λ input read.
     let none = rw same at c.in_err-judge_file-in-Input.ensures.refused in
     refused_as input (fault_for fault) c.from_residual.result c.from_residual.ensures.1 (binary_refused input owned.0 fault stands none)
 
+pub returns-in_ok-judge_file-in-Input-clause-file : goal.returns-in_ok-judge_file-in-Input-clause-file
+returns-in_ok-judge_file-in-Input-clause-file g c = λ input read.
+    let owned = rw c.in-Input.is at read in
+    let same : c.as_slice.result.now ≡ input = c.as_slice.ensures ∙ owned.1 in
+    let found = c.in_ok-judge_file-in-Input.ensures.ok in
+    let binary : IsBinary input found.0 = subst (λ (os : List ℕ). IsBinary os found.0) same found.1 in
+    rw (c.in_ok-judge_file-in-Input.ensures.file, same) (record {
+      value = found.0;
+      accepted = as_binary input found.0 owned.0 binary;
+      binary = binary;
+    })
+
 pub returns-in_ok-judge_file-in-Input-clause-writable : goal.returns-in_ok-judge_file-in-Input-clause-writable
 returns-in_ok-judge_file-in-Input-clause-writable g c = λ input read v is.
     let same = c.in_ok-judge_file-in-Input.ensures.file in
@@ -27,7 +40,7 @@ returns-in-Draft-clause-file g c = λ input read.
     ap octets_of c.draft.ensures.file ∙ c.layout.ensures ∙ c.as_slice-in-Draft.ensures.value in
     rw same (record {
       value = drafted.1.0;
-      accepted = inr (drafted.0, drafted.1.1.0);
+      accepted = as_text input drafted.1.0 drafted.0 drafted.1.1.0;
       binary = drafted.1.1.1;
     })
 
@@ -42,6 +55,6 @@ returns-in-Draft-clause-writable g c = λ input read v is.
     let binary : IsBinary c.in-Draft.draft.items v = subst (λ (os : List ℕ). IsBinary os v) same is in
     encoded_writable input c.in-Draft.draft.items drafted.0 (record {
       value = drafted.1.0;
-      accepted = inr (drafted.0, drafted.1.1.0);
+      accepted = as_text input drafted.1.0 drafted.0 drafted.1.1.0;
       binary = drafted.1.1.1;
     }) v binary ∙ sym c.draft.ensures.writable
