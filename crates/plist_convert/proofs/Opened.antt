@@ -1,10 +1,10 @@
 -- What a load finds at a path, from the contracts of the opener and the reader.
 use Rattle.std.proofs.Common.{arith, refl, inl, inr, length-append, Err, List, None, Ok, Option, Result, Some, ℕ, ◌≡◌}
-use Rattle.std.specs.Prelude.{◌↔◌, ◌<◌, IfErr, IfSome, IsErrOf, OnOk, length}
+use Rattle.std.specs.Prelude.{◌<◌, IfErr, IfSome, OnOk, length}
 use Rattle.std.specs.Io.KnownBytes.{Consumes}
 use Rattle.std.specs.declared.io.Error.{Error}
 use Rattle.plist_devices.specs.Count.{one_more}
-use Rattle.plist_forms.specs.Load.{IsLoadFault, Takes}
+use Rattle.plist_forms.specs.Load.{IsLoadFault, Loads}
 use Rattle.plist_forms.specs.declared.faults.Fault.{Fault}
 use Rattle.plist_forms.specs.declared.faults.Fault.TheVariants.{InputTooLarge, OutOfMemory, ReadFailed}
 use Rattle.plist_forms.specs.declared.loading.TheConstants.{MAX_INPUT}
@@ -24,17 +24,16 @@ large (Some at) path (Some xs) (Some ys) taken reads took most =
 
 pub unfound : {T R : Type 0} (files : Option Files) (path : FileName) (failures : R → ℕ) (old new : R) (to_come rest : Option (List ℕ)) (found : Result T Fault)
     → ReadsAll files path to_come → failures old ≡ 0
-    → (IsErrOf found ReadFailed → failures new ≡ one_more (failures old))
-    → Takes to_come rest (λ taken. IsErrOf found InputTooLarge ↔ (MAX_INPUT < length taken))
+    → Loads to_come rest (failures old) (failures new) found
     → IfErr found IsLoadFault → IfErr found (IsUnfound files path (HasFailing failures))
-unfound files path failures old new to_come rest (Ok octets) reads none at_once takes is = tt
-unfound files path failures old new to_come rest (Err ReadFailed) reads none at_once takes is =
-    let counts : failures new ≡ one_more 0 = rw none at (at_once refl) in
+unfound files path failures old new to_come rest (Ok octets) reads none loads is = tt
+unfound files path failures old new to_come rest (Err ReadFailed) reads none loads is =
+    let counts : failures new ≡ one_more 0 = rw none at (loads.at_once refl) in
     inr (new, omega (arith, counts))
-unfound files path failures old new to_come rest (Err InputTooLarge) reads none at_once takes is =
-    large files path to_come rest takes.0 reads takes.1 (takes.2.0 refl)
-unfound files path failures old new to_come rest (Err (OutOfMemory sent)) reads none at_once takes is = is
-unfound files path failures old new to_come rest (Err _) reads none at_once takes is = absurd is
+unfound files path failures old new to_come rest (Err InputTooLarge) reads none loads is =
+    let took = loads.too_large in large files path to_come rest took.0 reads took.1 (took.2.0 refl)
+unfound files path failures old new to_come rest (Err (OutOfMemory sent)) reads none loads is = is
+unfound files path failures old new to_come rest (Err _) reads none loads is = absurd is
 
 -- the refusal of a file that is not opened says why
 pub unopened_unfound : (files : Option Files) (path : FileName) (Failed : Type 0) (error : Error) (fault : Fault)

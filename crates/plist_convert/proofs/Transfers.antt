@@ -1,15 +1,12 @@
 -- Derives a run without arguments from the contract of a transfer.
 use Rattle.std.proofs.Common.{inl, inr, refl, sym, Err, List, None, Ok, Option, Result, Some, ℕ, ◌∙◌, ◌≡◌}
-use Rattle.std.specs.Prelude.{◌↔◌, ◌<◌, IsErrOf, length}
-use Rattle.plist_devices.specs.Count.{one_more}
 use Rattle.plist_forms.specs.Accepted.{IsCanonicalOf}
 use Rattle.plist_forms.specs.Fault.{write_fault_for}
-use Rattle.plist_forms.specs.Load.{IsLoadFault, Takes}
+use Rattle.plist_forms.specs.Load.{IsLoadFault, Loads}
 use Rattle.plist_forms.specs.Refusals.{IsRefused}
 use Rattle.plist_forms.specs.declared.faults.Fault.{Fault}
 use Rattle.plist_forms.specs.declared.faults.Fault.TheVariants.{InputTooLarge, OutOfMemory, ReadFailed}
 use Rattle.plist_forms.specs.declared.forms.Form.TheVariants.{Binary1}
-use Rattle.plist_forms.specs.declared.loading.TheConstants.{MAX_INPUT}
 use Rattle.plist_write.specs.Canonical.{canon}
 use Rattle.plist_write.specs.declared.faults.WriteFault.{WriteFault}
 use Rattle.plist_write.specs.declared.faults.WriteFault.TheVariants as write
@@ -20,6 +17,10 @@ use Rattle.plist_convert.specs.Answer.{refusal}
 use Rattle.plist_convert.specs.Ending.{Ends}
 use Rattle.plist_convert.specs.Runs.{EndsSending, IsFilterRun, IsInputFault, IsUntaken, standard}
 use Rattle.plist_convert.specs.State.{Input, State}
+
+-- what loading the input does to it
+abbrev pub LoadsInput : Input → Input → Result ℕ Fault → Type 0
+LoadsInput input rest result = Loads input.to_come rest.to_come input.failures rest.failures result
 
 -- the output in this form is the canonical file
 canonical_output : (octets output : List ℕ) → IsOutput Binary1 octets output → IsCanonicalOf octets output
@@ -65,11 +66,11 @@ writes_sent input rest before after n octets taken unfailed (inr goes) = inr (re
 
 pub filter_sent : (input rest : Input) (before after : State) (n : ℕ)
     → IsTransfer Binary1 input.to_come rest.to_come before.printed after.printed before.print_failures after.print_failures (Ok n)
-    → ((IsErrOf {T = ℕ} {E = Fault} (Ok n) ReadFailed → ⊥) → rest.failures ≡ input.failures)
+    → LoadsInput input rest (Ok n)
     → IsFilterRun input rest before after 0
-filter_sent input rest before after n (inl unsent) kept = absurd (let is = unsent.is in cc)
-filter_sent input rest before after n (inr goes) kept =
-    writes_sent input rest before after n goes.0 goes.1 (kept (λ e. cc)) goes.2
+filter_sent input rest before after n (inl unsent) loads = absurd (let is = unsent.is in cc)
+filter_sent input rest before after n (inr goes) loads =
+    writes_sent input rest before after n goes.0 goes.1 (loads.kept (λ e. cc)) goes.2
 
 -- a fault before anything is sent
 unfiltered : (input rest : Input) (before after : State) (status : ℕ) (printed : Option (List ℕ)) (failures : ℕ) (fault : Fault)
@@ -100,13 +101,7 @@ not_read_answer : (sent : Result ℕ WriteFault) (fault : Fault) → Err fault �
 not_read_answer (Ok n) fault is read = absurd cc
 not_read_answer (Err f) fault is read = not_read_sent f (let same : fault ≡ write_fault_for f = cc in sym same ∙ read)
 
--- what a refused load ensures for its failures and for what it took
-pub record IsLoaded (input rest : Input) (fault : Fault) : Type 0 where
-  pub at_once : IsErrOf {T = ℕ} (Err fault) ReadFailed → rest.failures ≡ one_more input.failures
-  pub kept : (IsErrOf {T = ℕ} (Err fault) ReadFailed → ⊥) → rest.failures ≡ input.failures
-  pub too_large : Takes input.to_come rest.to_come (λ taken. IsErrOf {T = ℕ} (Err fault) InputTooLarge ↔ (MAX_INPUT < length taken))
-
-untaken : (input rest : Input) (fault : Fault) → IsLoadFault fault → IsLoaded input rest fault → IsUntaken input rest fault
+untaken : (input rest : Input) (fault : Fault) → IsLoadFault fault → LoadsInput input rest (Err fault) → IsUntaken input rest fault
 untaken input rest ReadFailed cause loaded = loaded.at_once refl
 untaken input rest InputTooLarge cause loaded =
     let took = loaded.too_large in
@@ -115,7 +110,7 @@ untaken input rest (OutOfMemory sent) cause loaded = (cause, loaded.kept (λ e. 
 untaken input rest _ cause loaded = absurd cause
 
 writes_refused : (input rest : Input) (before after : State) (status : ℕ) (printed : Option (List ℕ)) (failures : ℕ) (fault : Fault)
-    (octets : List ℕ) → IsInput input.to_come rest.to_come octets → IsLoaded input rest fault
+    (octets : List ℕ) → IsInput input.to_come rest.to_come octets → LoadsInput input rest (Err fault)
     → Writes Binary1 octets before.printed printed before.print_failures failures (Err fault)
     → Ends printed after.printed failures after.print_failures (refusal standard fault) status
     → IsFilterRun input rest before after status
@@ -142,7 +137,7 @@ writes_refused input rest before after status printed failures fault octets take
 
 pub filter_refused : (input rest : Input) (before after : State) (status : ℕ) (printed : Option (List ℕ)) (failures : ℕ) (fault : Fault)
     → IsTransfer Binary1 input.to_come rest.to_come before.printed printed before.print_failures failures (Err fault)
-    → IsLoaded input rest fault → Ends printed after.printed failures after.print_failures (refusal standard fault) status
+    → LoadsInput input rest (Err fault) → Ends printed after.printed failures after.print_failures (refusal standard fault) status
     → IsFilterRun input rest before after status
 filter_refused input rest before after status printed failures fault (inl unsent) loaded ends =
     let same : unsent.fault ≡ fault = (let is = unsent.is in cc) in

@@ -11,7 +11,7 @@ use Rattle.ostep_text.specs.Text.{IsText}
 use Rattle.plist_value.specs.Writable.{is_writable}
 use Rattle.plist_forms.specs.Accepted.{IsAccepted, begins_as_binary}
 use Rattle.plist_forms.specs.Fault.{fault_for}
-use Rattle.plist_forms.specs.Judged.{Encodes, IsReadFrom, octets_in}
+use Rattle.plist_forms.specs.Judged.{IsReadFrom, octets_in}
 use Rattle.plist_forms.specs.Refusals.{IsRefused}
 use Rattle.plist_forms.specs.declared.judged.Binary.{Binary}
 use Rattle.plist_forms.specs.declared.judged.Binary.TheVariants.{Input, Draft}
@@ -32,11 +32,11 @@ read_value items input (Draft draft) read v is =
     as_text input v read.0 (subst (IsText input) (one_value draft.items drafted.0 v drafted.1.1 is) drafted.1.0)
 
 -- a text's value has a text
-pub encoded_writable : (input file : List ℕ) → begins_as_binary input ≡ false → Encodes input file
-    → (v : Plist) → IsBinary file v → is_writable v ≡ true
-encoded_writable input file begins is v binary =
-    let text = accepted_text input is.value begins is.accepted in
-    text_writable input v (subst (IsText input) (one_value file is.value v is.binary binary) text)
+pub encoded_writable : (input file : List ℕ) → begins_as_binary input ≡ false
+    → (w : Plist) → IsAccepted input w → IsBinary file w → (v : Plist) → IsBinary file v → is_writable v ≡ true
+encoded_writable input file begins w accepted is v binary =
+    let text = accepted_text input w begins accepted in
+    text_writable input v (subst (IsText input) (one_value file w v is binary) text)
 
 -- a refusal of the file is one of the input
 pub file_refused : {I : Type 0} (items : I → List ℕ) (input : List ℕ) (file : Binary I) → IsReadFrom items input file

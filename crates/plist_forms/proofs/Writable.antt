@@ -1,10 +1,10 @@
 -- The value of a text has a text: all its scalars are strings or data.
-use Rattle.std.proofs.Common.{◌≡◌, true, refl, false, List, ℕ}
+use Rattle.std.proofs.Common.{◌≡◌, true, refl, List, ℕ}
 use Rattle.std.proofs.lemmas.Bool.{and_parts}
 use Rattle.std.specs.Cmp.Derive.{both_true}
 use Rattle.plist_value.specs.Plist.{Plist, Items, Pairs}
 use Rattle.ostep_lex.specs.Lexeme.{Lexeme}
-use Rattle.ostep_text.specs.Phrase.{Phrase, ItemsPhrase, RowPhrase, RowsPhrase, TopPhrase, a_string, some_data, a_list, a_table, items_end, last_item, an_item, with_value, key_alone, rows_end, a_row, a_value, bare_table}
+use Rattle.ostep_text.specs.Phrase.{Phrase, ItemsPhrase, RowPhrase, RowsPhrase, TopPhrase, a_list, a_table, items_end, last_item, an_item, with_value, key_alone, rows_end, a_row, a_value, bare_table}
 use Rattle.ostep_text.specs.Sorting.{StandsAmong, AreReordered, first, later, none, row}
 use Rattle.ostep_text.specs.Text.{IsText}
 use Rattle.plist_value.specs.Writable.{is_writable, are_writable_items, are_writable_pairs}

@@ -1,6 +1,7 @@
 -- The binary file of an input: the input itself, or the draft of a text.
-use Rattle.std.specs.Prelude.{◌≡◌, true, false, ℕ, List}
+use Rattle.std.specs.Prelude.{◌≡◌, Bool, true, false, ℕ, List}
 use Rattle.plist_value.specs.Plist.{Plist}
+use Rattle.plist_value.specs.Writable.{is_writable}
 use Rattle.plist_object.specs.Spelled.{IsBinary}
 use Rattle.ostep_text.specs.Text.{IsText}
 use Rattle.plist_forms.specs.Accepted.{IsAccepted, begins_as_binary}
@@ -20,8 +21,9 @@ IsReadFrom items octets (Draft draft) =
     (begins_as_binary octets ≡ false)
     × ((v : Plist) × (IsText octets v × IsBinary draft.items v))
 
--- the file encodes the value of the input
-pub record Encodes (input file : List ℕ) : Type 0 where
+-- the file encodes the value of the input, and `writable` tells whether that has a text
+pub record Encodes (input file : List ℕ) (writable : Bool) : Type 0 where
   pub value : Plist
   pub accepted : IsAccepted input value
   pub binary : IsBinary file value
+  pub told : (v : Plist) → IsBinary file v → is_writable v ≡ writable

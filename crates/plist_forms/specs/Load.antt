@@ -1,15 +1,28 @@
 -- What loading takes from a source.
-use Rattle.std.specs.Prelude.{◌≡◌, ◌≢◌, ℕ, ◌≤◌, List, ◌++◌, length, take, Option, Some, None, Vec}
+use Rattle.std.specs.Prelude.{◌≡◌, ◌≢◌, ◌↔◌, ℕ, ◌<◌, ◌≤◌, List, ◌++◌, length, take, Vec}
+use Rattle.std.specs.Prelude.{IsErrOf, None, Option, Result, Some}
 use Rattle.std.specs.Io.KnownBytes.{Consumes}
+use Rattle.plist_devices.specs.Count.{HasFailed, one_more}
 use Rattle.plist_forms.specs.declared.faults.Fault.{Fault}
 use Rattle.plist_forms.specs.declared.faults.Fault.TheVariants.{ReadFailed, InputTooLarge}
 use Rattle.plist_forms.specs.declared.faults.Fault.TheVariants.{OutOfMemory}
+use Rattle.plist_forms.specs.declared.loading.TheConstants.{MAX_INPUT}
 use Rattle.plist_forms.specs.declared.taken.Taken.{Taken}
 use Rattle.plist_forms.specs.declared.taken.Taken.TheVariants.{Known, Other}
 
 -- The call took some bytes, the first of those to come, and P holds of them.
 abbrev pub Takes : Option (List ℕ) → Option (List ℕ) → (List ℕ → Type 0) → Type 0
 Takes to_come rest P = (taken : List ℕ) × Consumes to_come rest taken × P taken
+
+-- What loading does to its source: ReadFailed is returned if and only if the source fails, which it
+-- does at most once, and InputTooLarge if and only if it gives more than the maximum.
+pub record Loads {T : Type 0} (to_come rest : Option (List ℕ)) (before after : ℕ)
+    (result : Result T Fault) : Type 0 where
+  pub failed : IsErrOf result ReadFailed ↔ HasFailed before after
+  pub at_once : IsErrOf result ReadFailed → after ≡ one_more before
+  pub kept : ¬ IsErrOf result ReadFailed → after ≡ before
+  pub too_large :
+      Takes to_come rest (λ taken. IsErrOf result InputTooLarge ↔ (MAX_INPUT < length taken))
 
 -- the refusals of loading
 abbrev pub IsLoadFault : Fault → Type 0

@@ -1,15 +1,14 @@
 //! Converting a property list from a source to a sink.
-ghost use Rattle.std.specs.Prelude.{◌≡◌, ◌<◌, ◌↔◌, ℕ, List, length, IfErr, IsErrOf};
-ghost use Rattle.plist_devices.specs.Count.{HasFailed, one_more};
+ghost use Rattle.std.specs.Prelude.{◌≡◌, ℕ, List, IfErr};
 ghost use Rattle.plist_forms.specs.Judged.{IsReadFrom};
-ghost use Rattle.plist_forms.specs.Load.{Takes};
+ghost use Rattle.plist_forms.specs.Load.{Loads};
 ghost use Rattle.plist_forms.specs.Sent.{IsBeforePut};
 ghost use Rattle.plist_forms.specs.Transfer.{IsTransfer, Writes};
 
 use crate::faults::Fault;
 use crate::forms::Form;
 use crate::judged::Binary;
-use crate::loading::{MAX_INPUT, load};
+use crate::loading::load;
 use crate::openstep::write_text;
 use plist_devices::{Sink, Source};
 use plist_value::FixedHasher;
@@ -29,9 +28,9 @@ use std::hash::BuildHasher;
 /// # Errors
 ///
 /// In this order: `ReadFailed` (50) if the source fails, or `InputTooLarge` (52) above
-/// [`MAX_INPUT`] bytes; the errors of [`read_any`](crate::read_any); `NotInOpenStep` (40) if the
-/// value has no text; `WriteFailed` (51) if the sink fails. Out of memory (60) may come before any
-/// of them.
+/// [`MAX_INPUT`](crate::MAX_INPUT) bytes; the errors of [`read_any`](crate::read_any);
+/// `NotInOpenStep` (40) if the value has no text; `WriteFailed` (51) if the sink fails. Out of
+/// memory (60) may come before any of them.
 ///
 /// After 51 and 60 exactly the first `sent` bytes of the output were sent; after any other error
 /// the sink is untouched. The bytes taken from the source are lost.
@@ -45,18 +44,8 @@ pub fn convert<S: Source, W: Sink>(
         (W.taken to.old) (W.taken to.new) (W.failures to.old) (W.failures to.new) result }
     ensures untouched { IfErr result (λ fault. IsBeforePut fault → to.new ≡ to.old) }
     ensures same { W.device to.new ≡ W.device to.old }
-
-    // ReadFailed is returned if and only if the source fails in this call, which it does at most
-    // once.
-    ensures failed { IsErrOf result Fault.ReadFailed
-        ↔ HasFailed (S.failures from.old) (S.failures from.new) }
-    ensures at_once { IsErrOf result Fault.ReadFailed
-        → S.failures from.new ≡ one_more (S.failures from.old) }
-    ensures kept { ¬ IsErrOf result Fault.ReadFailed
-        → S.failures from.new ≡ S.failures from.old }
-
-    ensures too_large { Takes (S.remaining from.old) (S.remaining from.new)
-        (λ taken. IsErrOf result Fault.InputTooLarge ↔ (MAX_INPUT < length taken)) }
+    ensures loads { Loads (S.remaining from.old) (S.remaining from.new)
+        (S.failures from.old) (S.failures from.new) result }
 {
     convert_with_hasher(alloc, FixedHasher::new(), from, to, form)
 }
@@ -79,18 +68,8 @@ pub fn convert_with_hasher<H: BuildHasher + Copy, S: Source, W: Sink>(
         (W.taken to.old) (W.taken to.new) (W.failures to.old) (W.failures to.new) result }
     ensures untouched { IfErr result (λ fault. IsBeforePut fault → to.new ≡ to.old) }
     ensures same { W.device to.new ≡ W.device to.old }
-
-    // ReadFailed is returned if and only if the source fails in this call, which it does at most
-    // once.
-    ensures failed { IsErrOf result Fault.ReadFailed
-        ↔ HasFailed (S.failures from.old) (S.failures from.new) }
-    ensures at_once { IsErrOf result Fault.ReadFailed
-        → S.failures from.new ≡ one_more (S.failures from.old) }
-    ensures kept { ¬ IsErrOf result Fault.ReadFailed
-        → S.failures from.new ≡ S.failures from.old }
-
-    ensures too_large { Takes (S.remaining from.old) (S.remaining from.new)
-        (λ taken. IsErrOf result Fault.InputTooLarge ↔ (MAX_INPUT < length taken)) }
+    ensures loads { Loads (S.remaining from.old) (S.remaining from.new)
+        (S.failures from.old) (S.failures from.new) result }
 {
     let octets = load(alloc, from)?;
     convert_octets(alloc, hasher, octets, to, form)

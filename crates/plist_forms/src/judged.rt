@@ -1,10 +1,7 @@
 //! The binary file that encodes the value of an input: the input itself, or the draft of a text.
 ghost use Rattle.std.specs.Prelude.{◌≡◌, ℕ, List, IfOk, IfErr};
-ghost use Rattle.plist_value.specs.Plist.{Plist};
-ghost use Rattle.plist_value.specs.Writable.{is_writable};
 ghost use Rattle.plist_object.specs.KeyOrder.{IsReady};
 ghost use Rattle.plist_object.specs.Layout.{IsLaid};
-ghost use Rattle.plist_object.specs.Spelled.{IsBinary};
 ghost use Rattle.plist_object.specs.Views.{octets_of};
 ghost use Rattle.plist_forms.specs.Judged.{Encodes, IsReadFrom, octets_in};
 ghost use Rattle.plist_forms.specs.Refusals.{IsRefused};
@@ -52,12 +49,9 @@ impl<I: AsSlice<u8> + Drop> Binary<I> {
     /// Validates an input. A draft is valid, and its value has a text.
     pub(crate) fn judged(&self, alloc: Global) -> Result<JudgedFile<'_>, Fault>
         requires { (input : List ℕ) × IsReadFrom I.items input self.now }
-        ensures file { (input : List ℕ) → IsReadFrom I.items input self.entry.now
-            → IfOk result (λ judged. Encodes input (octets_of judged.file)) }
+        ensures encodes { (input : List ℕ) → IsReadFrom I.items input self.entry.now
+            → IfOk result (λ judged. Encodes input (octets_of judged.file) judged.writable) }
         ensures ready { IfOk result (λ judged. IsReady (octets_of judged.file) judged.order) }
-        ensures writable { (input : List ℕ) → IsReadFrom I.items input self.entry.now
-            → IfOk result (λ judged. (v : Plist) → IsBinary (octets_of judged.file) v
-            → is_writable v ≡ judged.writable) }
         ensures refused { (input : List ℕ) → IsReadFrom I.items input self.entry.now
             → IfErr result (IsRefused input) }
     {

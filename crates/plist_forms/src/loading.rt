@@ -1,9 +1,7 @@
 //! Loading all bytes of a source.
-ghost use Rattle.std.specs.Prelude.{◌≡◌, ◌≢◌, ◌<◌, ◌≤◌, ◌↔◌, length, vec_len};
-ghost use Rattle.std.specs.Prelude.{IsErrOf, IfOk, IfErr, IfSome, OnOk};
+ghost use Rattle.std.specs.Prelude.{◌≡◌, ◌≢◌, ◌≤◌, length, vec_len, IfOk, IfErr, IfSome, OnOk};
 ghost use Rattle.std.specs.Io.KnownBytes.{IsAtEnd};
-ghost use Rattle.plist_devices.specs.Count.{HasFailed, one_more};
-ghost use Rattle.plist_forms.specs.Load.{IsLoadFault, Takes, octets_or};
+ghost use Rattle.plist_forms.specs.Load.{IsLoadFault, Loads, octets_or};
 
 use crate::Fault;
 use crate::taken::Taken;
@@ -28,18 +26,8 @@ pub fn load<S: Source>(alloc: Global, from: &mut S) -> Result<Vec<u8>, Fault>
         IfSome (S.remaining from.old) (λ all. octets.items ≡ all)) }
     ensures within { IfOk result (λ octets. vec_len octets ≤ MAX_INPUT) }
     ensures end { OnOk result (IsAtEnd (S.remaining from.new)) }
-
-    // ReadFailed is returned if and only if a failure is counted in this call, which is at most
-    // one.
-    ensures failed { IsErrOf result Fault.ReadFailed
-        ↔ HasFailed (S.failures from.old) (S.failures from.new) }
-    ensures at_once { IsErrOf result Fault.ReadFailed
-        → S.failures from.new ≡ one_more (S.failures from.old) }
-    ensures kept { ¬ IsErrOf result Fault.ReadFailed
-        → S.failures from.new ≡ S.failures from.old }
-
-    ensures too_large { Takes (S.remaining from.old) (S.remaining from.new)
-        (λ taken. IsErrOf result Fault.InputTooLarge ↔ (MAX_INPUT < length taken)) }
+    ensures loads { Loads (S.remaining from.old) (S.remaining from.new)
+        (S.failures from.old) (S.failures from.new) result }
     ensures faults { IfErr result IsLoadFault }
 {
     match load_unless(alloc, from, &[])? {
@@ -63,14 +51,8 @@ pub fn load_unless<S: Source>(
     ensures other { IfOk result (λ found. IfSome found (λ octets. octets.items ≢ known.now)) }
     ensures within { IfOk result (λ found. length (octets_or known.now found) ≤ MAX_INPUT) }
     ensures end { OnOk result (IsAtEnd (S.remaining from.new)) }
-    ensures failed { IsErrOf result Fault.ReadFailed
-        ↔ HasFailed (S.failures from.old) (S.failures from.new) }
-    ensures at_once { IsErrOf result Fault.ReadFailed
-        → S.failures from.new ≡ one_more (S.failures from.old) }
-    ensures kept { ¬ IsErrOf result Fault.ReadFailed
-        → S.failures from.new ≡ S.failures from.old }
-    ensures too_large { Takes (S.remaining from.old) (S.remaining from.new)
-        (λ taken. IsErrOf result Fault.InputTooLarge ↔ (MAX_INPUT < length taken)) }
+    ensures loads { Loads (S.remaining from.old) (S.remaining from.new)
+        (S.failures from.old) (S.failures from.new) result }
     ensures faults { IfErr result IsLoadFault }
 {
     let mut taken = Taken::Known(0);

@@ -1,10 +1,7 @@
 //! Writing the OpenStep text of an input.
 ghost use Rattle.std.specs.Prelude.{◌≡◌, ℕ, List, true, IfErr, IfOk};
-ghost use Rattle.plist_value.specs.Plist.{Plist};
 ghost use Rattle.plist_object.specs.KeyOrder.{IsReady};
-ghost use Rattle.plist_object.specs.Spelled.{IsBinary};
 ghost use Rattle.plist_object.specs.Views.{octets_of};
-ghost use Rattle.plist_value.specs.Writable.{is_writable};
 ghost use Rattle.plist_forms.specs.Judged.{Encodes, IsReadFrom};
 ghost use Rattle.plist_forms.specs.Output.{IsOutputFault};
 ghost use Rattle.plist_forms.specs.Sent.{IsBeforePut};
@@ -65,12 +62,9 @@ fn writable_file<I: AsSlice<u8> + Drop>(
     binary: &Binary<I>,
 ) -> Result<JudgedFile<'_>, Fault>
     requires { (input : List ℕ) × IsReadFrom I.items input binary.now }
-    ensures file { (input : List ℕ) → IsReadFrom I.items input binary.entry.now
-        → IfOk result (λ judged. Encodes input (octets_of judged.file)) }
+    ensures encodes { (input : List ℕ) → IsReadFrom I.items input binary.entry.now
+        → IfOk result (λ judged. Encodes input (octets_of judged.file) true) }
     ensures ready { IfOk result (λ judged. IsReady (octets_of judged.file) judged.order) }
-    ensures writable { (input : List ℕ) → IsReadFrom I.items input binary.entry.now
-        → IfOk result (λ judged. (v : Plist) → IsBinary (octets_of judged.file) v
-        → is_writable v ≡ true) }
     ensures refused { (input : List ℕ) → IsReadFrom I.items input binary.entry.now
         → IfErr result (IsOutputFault Form.OpenStep input) }
 {

@@ -14,12 +14,12 @@ judged-requires g c = (c.args.octets.now, c.in_ok-binary.ensures.read)
 
 pub canonical_of-requires-clause-binary : goal.canonical_of-requires-clause-binary
 canonical_of-requires-clause-binary g c =
-    let encoded = c.in_ok-judged.ensures.file c.args.octets.now c.in_ok-binary.ensures.read in
+    let encoded = c.in_ok-judged.ensures.encodes c.args.octets.now c.in_ok-binary.ensures.read in
     (encoded.value, encoded.binary)
 
 pub returns-clause-canonical : goal.returns-clause-canonical
 returns-clause-canonical g c =
-    let encoded = c.in_ok-judged.ensures.file c.args.octets.now c.in_ok-binary.ensures.read in
+    let encoded = c.in_ok-judged.ensures.encodes c.args.octets.now c.in_ok-binary.ensures.read in
     record {
       value = encoded.value;
       accepted = encoded.accepted;

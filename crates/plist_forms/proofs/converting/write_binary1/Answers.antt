@@ -13,12 +13,12 @@ returns-in_err-judged-clause-untouched g c = untouched _ c.from_residual.result 
 
 pub write_canonical_of-requires-clause-binary : goal.write_canonical_of-requires-clause-binary
 write_canonical_of-requires-clause-binary g c =
-    let encoded = c.in_ok-judged.ensures.file c.requires.0 c.requires.1 in
+    let encoded = c.in_ok-judged.ensures.encodes c.requires.0 c.requires.1 in
     (encoded.value, encoded.binary)
 
 pub returns-in_err-write_canonical_of-clause-writes : goal.returns-in_err-write_canonical_of-clause-writes
 returns-in_err-write_canonical_of-clause-writes g c = λ input read.
-    let encoded = c.in_ok-judged.ensures.file input read in
+    let encoded = c.in_ok-judged.ensures.encodes input read in
     file_sent input encoded.value encoded.accepted _ _ _ _ _ c.from_residual-in_err-write_canonical_of.result (failed_answer _ _ c.from_residual-in_err-write_canonical_of.ensures.1) (c.in_err-write_canonical_of.ensures.written encoded.value encoded.binary)
 
 pub returns-in_err-write_canonical_of-clause-untouched : goal.returns-in_err-write_canonical_of-clause-untouched
@@ -26,5 +26,5 @@ returns-in_err-write_canonical_of-clause-untouched g c = after_put _ _ c.from_re
 
 pub returns-clause-writes : goal.returns-clause-writes
 returns-clause-writes g c = λ input read.
-    let encoded = c.in_ok-judged.ensures.file input read in
+    let encoded = c.in_ok-judged.ensures.encodes input read in
     file_sent input encoded.value encoded.accepted _ _ _ _ _ _ refl (c.in_ok-write_canonical_of.ensures.written encoded.value encoded.binary)

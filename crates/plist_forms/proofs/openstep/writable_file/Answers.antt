@@ -9,18 +9,21 @@ pub returns-in_err-judged-clause-refused : goal.returns-in_err-judged-clause-ref
 returns-in_err-judged-clause-refused g c = λ input read.
     failed_as (IsOutputFault OpenStep input) _ c.from_residual.result c.from_residual.ensures.1 (inl (c.in_err-judged.ensures.refused input read))
 
-pub returns-then-judged-clause-file : goal.returns-then-judged-clause-file
-returns-then-judged-clause-file g c = λ input read. c.in_ok-judged.ensures.file input read
-
-pub returns-then-judged-clause-writable : goal.returns-then-judged-clause-writable
-returns-then-judged-clause-writable g c = λ input read v binary.
+pub returns-then-judged-clause-encodes : goal.returns-then-judged-clause-encodes
+returns-then-judged-clause-encodes g c = λ input read.
     let writable : c.in_ok-judged.judged.writable ≡ true = search rules in
-    c.in_ok-judged.ensures.writable input read v binary ∙ writable
+    let encoded = c.in_ok-judged.ensures.encodes input read in
+    record {
+      value = encoded.value;
+      accepted = encoded.accepted;
+      binary = encoded.binary;
+      told = λ v binary. encoded.told v binary ∙ writable;
+    }
 
 pub returns-clause-refused : goal.returns-clause-refused
 returns-clause-refused g c = λ input read.
-    let encoded = c.in_ok-judged.ensures.file input read in
+    let encoded = c.in_ok-judged.ensures.encodes input read in
     let unwritable : c.in_ok-judged.judged.writable ≡ false = search rules in
     let apart : is_writable encoded.value ≡ false =
-    c.in_ok-judged.ensures.writable input read encoded.value encoded.binary ∙ unwritable in
+    encoded.told encoded.value encoded.binary ∙ unwritable in
     inr (record { value = encoded.value; accepted = encoded.accepted; none = rw apart refl; is = refl })

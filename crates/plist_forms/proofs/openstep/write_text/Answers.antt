@@ -13,16 +13,18 @@ returns-in_err-judged-clause-untouched g c = untouched _ c.from_residual.result 
 
 pub write_text_of-requires-clause-binary : goal.write_text_of-requires-clause-binary
 write_text_of-requires-clause-binary g c =
-    let encoded = c.in_ok-judged.ensures.file c.requires.0 c.requires.1 in
+    let encoded = c.in_ok-judged.ensures.encodes c.requires.0 c.requires.1 in
     (encoded.value, encoded.binary)
 
 pub write_text_of-requires-clause-writable : goal.write_text_of-requires-clause-writable
-write_text_of-requires-clause-writable g c = c.in_ok-judged.ensures.writable c.requires.0 c.requires.1
+write_text_of-requires-clause-writable g c =
+    let encoded = c.in_ok-judged.ensures.encodes c.requires.0 c.requires.1 in
+    encoded.told
 
 pub returns-in_err-write_text_of-clause-writes : goal.returns-in_err-write_text_of-clause-writes
 returns-in_err-write_text_of-clause-writes g c = λ input read.
-    let encoded = c.in_ok-judged.ensures.file input read in
-    let writable = c.in_ok-judged.ensures.writable input read encoded.value encoded.binary in
+    let encoded = c.in_ok-judged.ensures.encodes input read in
+    let writable = encoded.told encoded.value encoded.binary in
     openstep_sent input encoded.value encoded.accepted writable _ _ _ _ _ c.from_residual-in_err-write_text_of.result (failed_answer _ _ c.from_residual-in_err-write_text_of.ensures.1) (c.in_err-write_text_of.ensures.written encoded.value encoded.binary)
 
 pub returns-in_err-write_text_of-clause-untouched : goal.returns-in_err-write_text_of-clause-untouched
@@ -30,6 +32,6 @@ returns-in_err-write_text_of-clause-untouched g c = after_put _ _ c.from_residua
 
 pub returns-clause-writes : goal.returns-clause-writes
 returns-clause-writes g c = λ input read.
-    let encoded = c.in_ok-judged.ensures.file input read in
-    let writable = c.in_ok-judged.ensures.writable input read encoded.value encoded.binary in
+    let encoded = c.in_ok-judged.ensures.encodes input read in
+    let writable = encoded.told encoded.value encoded.binary in
     openstep_sent input encoded.value encoded.accepted writable _ _ _ _ _ _ refl (c.in_ok-write_text_of.ensures.written encoded.value encoded.binary)

@@ -19,12 +19,12 @@ returns-in_err-judged-clause-untouched g c = untouched _ c.from_residual-in_err-
 
 pub print_of-requires-clause-binary : goal.print_of-requires-clause-binary
 print_of-requires-clause-binary g c =
-    let encoded = c.in_ok-judged.ensures.file c.args.octets.now c.in_ok-binary.ensures.read in
+    let encoded = c.in_ok-judged.ensures.encodes c.args.octets.now c.in_ok-binary.ensures.read in
     (encoded.value, encoded.binary)
 
 pub returns-in_err-print_of-clause-prints : goal.returns-in_err-print_of-clause-prints
 returns-in_err-print_of-clause-prints g c =
-    let encoded = c.in_ok-judged.ensures.file c.args.octets.now c.in_ok-binary.ensures.read in
+    let encoded = c.in_ok-judged.ensures.encodes c.args.octets.now c.in_ok-binary.ensures.read in
     text_sent c.args.octets.now encoded.value encoded.accepted _ _ _ _ _ c.from_residual-in_err-print_of.result (failed_answer _ _ c.from_residual-in_err-print_of.ensures.1) (c.in_err-print_of.ensures.written encoded.value encoded.binary)
 
 pub returns-in_err-print_of-clause-untouched : goal.returns-in_err-print_of-clause-untouched
@@ -32,7 +32,7 @@ returns-in_err-print_of-clause-untouched g c = after_put _ _ c.from_residual-in_
 
 pub returns-clause-prints : goal.returns-clause-prints
 returns-clause-prints g c =
-    let encoded = c.in_ok-judged.ensures.file c.args.octets.now c.in_ok-binary.ensures.read in
+    let encoded = c.in_ok-judged.ensures.encodes c.args.octets.now c.in_ok-binary.ensures.read in
     text_sent c.args.octets.now encoded.value encoded.accepted _ _ _ _ _ _ refl (c.in_ok-print_of.ensures.written encoded.value encoded.binary)
 
 pub judged-requires : goal.judged-requires

@@ -1,6 +1,7 @@
 use Rattle.std.proofs.Common.{◌≡◌, ◌∙◌, ap, subst, sym, List, ℕ}
 use Rattle.plist_object.specs.Spelled.{IsBinary}
 use Rattle.plist_object.specs.Views.{octets_of}
+use Rattle.plist_forms.specs.Accepted.{IsAccepted}
 use Rattle.plist_forms.specs.Fault.{fault_for}
 use Rattle.plist_forms.proofs.Accepting.{as_binary, as_text}
 use Rattle.plist_forms.proofs.Judging.{encoded_writable}
@@ -16,45 +17,34 @@ returns-in_err-judge_file-in-Input-clause-refused g c = λ input read.
     let none = rw same at c.in_err-judge_file-in-Input.ensures.refused in
     refused_as input (fault_for fault) c.from_residual.result c.from_residual.ensures.1 (binary_refused input owned.0 fault stands none)
 
-pub returns-in_ok-judge_file-in-Input-clause-file : goal.returns-in_ok-judge_file-in-Input-clause-file
-returns-in_ok-judge_file-in-Input-clause-file g c = λ input read.
+pub returns-in_ok-judge_file-in-Input-clause-encodes : goal.returns-in_ok-judge_file-in-Input-clause-encodes
+returns-in_ok-judge_file-in-Input-clause-encodes g c = λ input read.
     let owned = rw c.in-Input.is at read in
-    let same : c.as_slice.result.now ≡ input = c.as_slice.ensures ∙ owned.1 in
-    let found = c.in_ok-judge_file-in-Input.ensures.ok in
-    let binary : IsBinary input found.0 = subst (λ (os : List ℕ). IsBinary os found.0) same found.1 in
-    rw (c.in_ok-judge_file-in-Input.ensures.file, same) (record {
-      value = found.0;
-      accepted = as_binary input found.0 owned.0 binary;
-      binary = binary;
-    })
-
-pub returns-in_ok-judge_file-in-Input-clause-writable : goal.returns-in_ok-judge_file-in-Input-clause-writable
-returns-in_ok-judge_file-in-Input-clause-writable g c = λ input read v is.
+    let given : c.as_slice.result.now ≡ input = c.as_slice.ensures ∙ owned.1 in
     let same = c.in_ok-judge_file-in-Input.ensures.file in
-    c.in_ok-judge_file-in-Input.ensures.writable v (subst (λ (os : List ℕ). IsBinary os v) same is)
+    let found = rw given at c.in_ok-judge_file-in-Input.ensures.ok in
+    let file = same ∙ given in
+    record {
+      value = found.0;
+      accepted = as_binary input found.0 owned.0 found.1;
+      binary = subst (λ (os : List ℕ). IsBinary os found.0) (sym file) found.1;
+      told = λ v is. c.in_ok-judge_file-in-Input.ensures.writable v (subst (λ (os : List ℕ). IsBinary os v) same is);
+    }
 
-pub returns-in-Draft-clause-file : goal.returns-in-Draft-clause-file
-returns-in-Draft-clause-file g c = λ input read.
+pub returns-in-Draft-clause-encodes : goal.returns-in-Draft-clause-encodes
+returns-in-Draft-clause-encodes g c = λ input read.
     let drafted = rw c.in-Draft.is at read in
     let same : octets_of c.draft.result.file ≡ c.in-Draft.draft.items =
     ap octets_of c.draft.ensures.file ∙ c.layout.ensures ∙ c.as_slice-in-Draft.ensures.value in
-    rw same (record {
+    let accepted : IsAccepted input drafted.1.0 = as_text input drafted.1.0 drafted.0 drafted.1.1.0 in
+    record {
       value = drafted.1.0;
-      accepted = as_text input drafted.1.0 drafted.0 drafted.1.1.0;
-      binary = drafted.1.1.1;
-    })
+      accepted = accepted;
+      binary = subst (λ (os : List ℕ). IsBinary os drafted.1.0) (sym same) drafted.1.1.1;
+      told = λ v is.
+          let binary = subst (λ (os : List ℕ). IsBinary os v) same is in
+          encoded_writable input c.in-Draft.draft.items drafted.0 drafted.1.0 accepted drafted.1.1.1 v binary ∙ sym c.draft.ensures.writable;
+    }
 
 pub returns-in-Draft-clause-ready : goal.returns-in-Draft-clause-ready
 returns-in-Draft-clause-ready g c = c.draft.ensures.ready _
-
-pub returns-in-Draft-clause-writable : goal.returns-in-Draft-clause-writable
-returns-in-Draft-clause-writable g c = λ input read v is.
-    let drafted = rw c.in-Draft.is at read in
-    let same : octets_of c.draft.result.file ≡ c.in-Draft.draft.items =
-    ap octets_of c.draft.ensures.file ∙ c.layout.ensures ∙ c.as_slice-in-Draft.ensures.value in
-    let binary : IsBinary c.in-Draft.draft.items v = subst (λ (os : List ℕ). IsBinary os v) same is in
-    encoded_writable input c.in-Draft.draft.items drafted.0 (record {
-      value = drafted.1.0;
-      accepted = as_text input drafted.1.0 drafted.0 drafted.1.1.0;
-      binary = drafted.1.1.1;
-    }) v binary ∙ sym c.draft.ensures.writable
