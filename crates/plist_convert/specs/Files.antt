@@ -1,6 +1,6 @@
 -- The contents of files, and how loading and storing change them.
 use Rattle.std.specs.Prelude.{◌≡◌, ◌≢◌, ◌⊎◌, ⊤, ℕ, ◌<◌, List, length, take, None, Option, Some}
-use Rattle.std.specs.Prelude.{Result, Err, IfErr, IfOk, IfSome}
+use Rattle.std.specs.Prelude.{Result, Err, IfErr, IfOk, IfSome, OnOk}
 use Rattle.plist_devices.specs.Count.{one_more}
 use Rattle.plist_forms.specs.declared.faults.Fault.{Fault}
 use Rattle.plist_forms.specs.declared.faults.Fault.TheVariants.{ReadFailed, WriteFailed}
@@ -52,6 +52,15 @@ IsUnloaded files path before after InputTooLarge =
     × (after ≡ before)
 IsUnloaded files path before after (OutOfMemory sent) = (sent ≡ 0) × (after ≡ before)
 IsUnloaded files path before after _ = ⊥
+
+-- Loading the file at a path changes no file. The result has the bytes at the path, or says why the
+-- file was not loaded.
+pub record LoadsFile {T : Type 0} (bytes_in : T → List ℕ) (files rest : Option Files)
+    (path : FileName) (before after : ℕ) (result : Result T Fault) : Type 0 where
+  pub kept : SameFiles files rest
+  pub found : IfOk result (λ loaded. FileHolds files path (bytes_in loaded))
+  pub unfailed : OnOk result (after ≡ before)
+  pub refused : IfErr result (IsUnloaded files path before after)
 
 -- the path has the first `sent` of the bytes, or is unchanged if `sent` is 0
 abbrev pub HoldsFront : Option Files → Option Files → FileName → List ℕ → ℕ → Type 0

@@ -1,8 +1,7 @@
 //! Storage for files.
-ghost use Rattle.std.specs.Prelude.{◌≡◌, ℕ, IfErr, IfOk, OnOk, Option};
+ghost use Rattle.std.specs.Prelude.{◌≡◌, ℕ, Option};
 ghost use Rattle.plist_forms.specs.Load.{octets_or};
-ghost use Rattle.plist_convert.specs.Files.{CountsFailure, Files, FileHolds, IsUnloaded, SameFiles};
-ghost use Rattle.plist_convert.specs.Files.{Stores};
+ghost use Rattle.plist_convert.specs.Files.{CountsFailure, Files, LoadsFile, Stores};
 
 use plist_forms::{Fault, Form};
 use std::alloc::Global;
@@ -26,11 +25,8 @@ pub trait Disk {
     /// [`Fault::InputTooLarge`] (52) if it has more than [`MAX_INPUT`](plist_forms::MAX_INPUT)
     /// bytes; [`Fault::OutOfMemory`] (60).
     fn load(&mut self, alloc: Global, path: &str) -> Result<Vec<u8>, Fault>
-        ensures kept { SameFiles (files self.old) (files self.new) }
-        ensures found { IfOk result (λ octets. FileHolds (files self.old) path.now octets.items) }
-        ensures unfailed { OnOk result (failures self.new ≡ failures self.old) }
-        ensures refused { IfErr result
-            (IsUnloaded (files self.old) path.now (failures self.old) (failures self.new)) };
+        ensures loads { LoadsFile (λ octets. octets.items) (files self.old) (files self.new)
+            path.now (failures self.old) (failures self.new) result };
 
     /// Returns all bytes of the file at the path, or `None` if they are the known ones, which are
     /// then not allocated a second time.
@@ -44,12 +40,8 @@ pub trait Disk {
         path: &str,
         known: &[u8],
     ) -> Result<Option<Vec<u8>>, Fault>
-        ensures kept { SameFiles (files self.old) (files self.new) }
-        ensures found { IfOk result (λ found.
-            FileHolds (files self.old) path.now (octets_or known.now found)) }
-        ensures unfailed { OnOk result (failures self.new ≡ failures self.old) }
-        ensures refused { IfErr result
-            (IsUnloaded (files self.old) path.now (failures self.old) (failures self.new)) };
+        ensures loads { LoadsFile (octets_or known.now) (files self.old) (files self.new)
+            path.now (failures self.old) (failures self.new) result };
 
     /// Converts the bytes to this form and writes the output to the file at the path. The file is
     /// created or emptied when the first byte is put. Returns its size. Takes ownership

@@ -3,7 +3,7 @@ ghost use Rattle.std.specs.Prelude.{◌≡◌, ◌≤◌, false, IfErr, IfOk, If
 ghost use Rattle.std.specs.Prelude.{IsErrOf, option_map};
 ghost use Rattle.plist_forms.specs.Load.{octets_or};
 ghost use Rattle.plist_convert.specs.FileDisk.{IsFullAt, told};
-ghost use Rattle.plist_convert.specs.Files.{FileHolds, IsUnloaded, SameFiles, Stores};
+ghost use Rattle.plist_convert.specs.Files.{FileHolds, LoadsFile, SameFiles, Stores};
 ghost use Rattle.plist_convert.specs.Opens.{CountsUnread, Creates, HasFailing, IsUnfound};
 ghost use Rattle.plist_convert.specs.Opens.{IsUnopenedAs, Settles, written_of};
 
@@ -53,12 +53,9 @@ impl<O: Steady, H: BuildHasher + Copy> Disk for FileDisk<O, H> {
     ghost failures = { disk_failures };
 
     fn load(&mut self, alloc: Global, path: &str) -> Result<Vec<u8>, Fault>
-        ensures kept { SameFiles (files_of O.files self.old) (files_of O.files self.new) }
-        ensures found { IfOk result (λ octets.
-            FileHolds (files_of O.files self.old) path.now octets.items) }
-        ensures unfailed { OnOk result (disk_failures self.new ≡ disk_failures self.old) }
-        ensures refused { IfErr result (IsUnloaded (files_of O.files self.old) path.now
-            (disk_failures self.old) (disk_failures self.new)) }
+        ensures loads { LoadsFile (λ octets. octets.items)
+            (files_of O.files self.old) (files_of O.files self.new)
+            path.now (disk_failures self.old) (disk_failures self.new) result }
         ensures missing { IfSome (files_of O.files self.old)
             (λ at. at path.now ≡ None → IsErrOf result Fault.ReadFailed) }
         ensures limit { limit_of O.limit self.new ≡ limit_of O.limit self.old }
@@ -75,12 +72,9 @@ impl<O: Steady, H: BuildHasher + Copy> Disk for FileDisk<O, H> {
         path: &str,
         known: &[u8],
     ) -> Result<Option<Vec<u8>>, Fault>
-        ensures kept { SameFiles (files_of O.files self.old) (files_of O.files self.new) }
-        ensures found { IfOk result (λ found.
-            FileHolds (files_of O.files self.old) path.now (octets_or known.now found)) }
-        ensures unfailed { OnOk result (disk_failures self.new ≡ disk_failures self.old) }
-        ensures refused { IfErr result (IsUnloaded (files_of O.files self.old) path.now
-            (disk_failures self.old) (disk_failures self.new)) }
+        ensures loads { LoadsFile (octets_or known.now)
+            (files_of O.files self.old) (files_of O.files self.new)
+            path.now (disk_failures self.old) (disk_failures self.new) result }
         ensures missing { IfSome (files_of O.files self.old)
             (λ at. at path.now ≡ None → IsErrOf result Fault.ReadFailed) }
         ensures limit { limit_of O.limit self.new ≡ limit_of O.limit self.old }

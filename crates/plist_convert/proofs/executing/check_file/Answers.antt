@@ -13,13 +13,13 @@ returns-in-Ok-clause-run g c =
     let after = state (g.D.Disk.files c.load.new.self) (g.D.Disk.failures c.load.new.self) (g.W.Sink.taken c.give.new.output) (g.W.Sink.failures c.give.new.output) in
     let answers : IfOk c.check_answer_of.result (λ a. IsCheckAnswerOf c.args.several c.args.path.now c.in-Ok.octets.items (said_of a)) = search rules in
     file_answered (IsCheckAnswerOf c.args.several c.args.path.now) c.args.path.now before after c.give.result c.in-Ok.octets.items c.check_answer_of.result
-    c.in-Ok.ensures.found c.in-Ok.ensures.kept c.in-Ok.ensures.unfailed answers c.give.ensures.ends
+    c.in-Ok.ensures.loads.found c.in-Ok.ensures.loads.kept c.in-Ok.ensures.loads.unfailed answers c.give.ensures.ends
 
 pub returns-in-Err-clause-run : goal.returns-in-Err-clause-run
 unfolding IsChecked
 returns-in-Err-clause-run g c = inl (record {
   fault = c.in-Err.fault;
-  cause = c.in-Err.ensures.refused;
-  kept = c.in-Err.ensures.kept;
+  cause = c.in-Err.ensures.loads.refused;
+  kept = c.in-Err.ensures.loads.kept;
   ends = c.report.ensures.ends;
 })

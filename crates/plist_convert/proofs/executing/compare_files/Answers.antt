@@ -11,8 +11,8 @@ pub returns-in-Err-clause-run : goal.returns-in-Err-clause-run
 unfolding IsSameRun
 returns-in-Err-clause-run g c = inl (record {
   fault = c.in-Err.fault;
-  cause = c.in-Err.ensures.refused;
-  kept = c.in-Err.ensures.kept;
+  cause = c.in-Err.ensures.loads.refused;
+  kept = c.in-Err.ensures.loads.kept;
   ends = c.report.ensures.ends;
 })
 
@@ -24,12 +24,12 @@ returns-in-Ok-Some-clause-run g c =
     let middle = g.D.Disk.files c.load.new.self in
     let a = c.in-Ok.octets.items in
     let b = c.in-Ok-Some.b.items in
-    let found = rw c.in-Ok-Some.field-0-is at c.in-Ok-Some.ensures.found in
+    let found = rw c.in-Ok-Some.field-0-is at c.in-Ok-Some.ensures.loads.found in
     let answers : IfOk c.same_answer.result (λ r. IsSameAnswer c.args.first.now c.args.second.now a b (said_of r)) = search rules in
     inr (inr (files_compared c.args.first.now c.args.second.now before after c.give.result a b c.same_answer.result
-    c.in-Ok.ensures.found (holds_before before.files middle c.args.second.now b c.in-Ok.ensures.kept found)
-    (same_trans before.files middle after.files c.in-Ok.ensures.kept c.in-Ok-Some.ensures.kept)
-    (c.in-Ok-Some.ensures.unfailed ∙ c.in-Ok.ensures.unfailed) answers c.give.ensures.ends))
+    c.in-Ok.ensures.loads.found (holds_before before.files middle c.args.second.now b c.in-Ok.ensures.loads.kept found)
+    (same_trans before.files middle after.files c.in-Ok.ensures.loads.kept c.in-Ok-Some.ensures.loads.kept)
+    (c.in-Ok-Some.ensures.loads.unfailed ∙ c.in-Ok.ensures.loads.unfailed) answers c.give.ensures.ends))
 
 pub returns-in-Ok-None-clause-run : goal.returns-in-Ok-None-clause-run
 unfolding IsSameRun
@@ -38,12 +38,12 @@ returns-in-Ok-None-clause-run g c =
     let after = state (g.D.Disk.files c.load_unless.new.self) (g.D.Disk.failures c.load_unless.new.self) (g.W.Sink.taken c.give-in-Ok-None.new.output) (g.W.Sink.failures c.give-in-Ok-None.new.output) in
     let middle = g.D.Disk.files c.load.new.self in
     let a = c.in-Ok.octets.items in
-    let found = rw (c.in-Ok-None.field-0-is, c.as_slice.ensures.value) at c.in-Ok-None.ensures.found in
+    let found = rw (c.in-Ok-None.field-0-is, c.as_slice.ensures.value) at c.in-Ok-None.ensures.loads.found in
     let answers : IfOk c.same_answer-in-Ok-None.result (λ r. IsSameAnswer c.args.first.now c.args.second.now a a (said_of r)) = search rules in
     inr (inr (files_compared c.args.first.now c.args.second.now before after c.give-in-Ok-None.result a a c.same_answer-in-Ok-None.result
-    c.in-Ok.ensures.found (holds_before before.files middle c.args.second.now a c.in-Ok.ensures.kept found)
-    (same_trans before.files middle after.files c.in-Ok.ensures.kept c.in-Ok-None.ensures.kept)
-    (c.in-Ok-None.ensures.unfailed ∙ c.in-Ok.ensures.unfailed) answers c.give-in-Ok-None.ensures.ends))
+    c.in-Ok.ensures.loads.found (holds_before before.files middle c.args.second.now a c.in-Ok.ensures.loads.kept found)
+    (same_trans before.files middle after.files c.in-Ok.ensures.loads.kept c.in-Ok-None.ensures.loads.kept)
+    (c.in-Ok-None.ensures.loads.unfailed ∙ c.in-Ok.ensures.loads.unfailed) answers c.give-in-Ok-None.ensures.ends))
 
 pub returns-clause-run : goal.returns-clause-run
 unfolding IsSameRun
@@ -53,12 +53,12 @@ returns-clause-run g c =
     let last = g.D.Disk.files c.load_unless.new.self in
     inr (inl (record {
       octets = c.in-Ok.octets.items;
-      stands = c.in-Ok.ensures.found;
+      stands = c.in-Ok.ensures.loads.found;
       unread = record {
         fault = c.in-Err-load_unless.fault;
         cause = unloaded_before first middle c.args.second.now (g.D.Disk.failures c.args.disk.now) (g.D.Disk.failures c.load.new.self)
-            (g.D.Disk.failures c.load_unless.new.self) c.in-Err-load_unless.fault c.in-Ok.ensures.kept c.in-Ok.ensures.unfailed c.in-Err-load_unless.ensures.refused;
-        kept = same_trans first middle last c.in-Ok.ensures.kept c.in-Err-load_unless.ensures.kept;
+            (g.D.Disk.failures c.load_unless.new.self) c.in-Err-load_unless.fault c.in-Ok.ensures.loads.kept c.in-Ok.ensures.loads.unfailed c.in-Err-load_unless.ensures.loads.refused;
+        kept = same_trans first middle last c.in-Ok.ensures.loads.kept c.in-Err-load_unless.ensures.loads.kept;
         ends = c.report-in-Err-load_unless.ensures.ends;
       };
     }))

@@ -9,8 +9,8 @@ pub returns-in-Err-clause-run : goal.returns-in-Err-clause-run
 unfolding IsConvertRun
 returns-in-Err-clause-run g c = inl (record {
   fault = c.in-Err.fault;
-  cause = c.in-Err.ensures.refused;
-  kept = c.in-Err.ensures.kept;
+  cause = c.in-Err.ensures.loads.refused;
+  kept = c.in-Err.ensures.loads.kept;
   ends = c.report.ensures.ends;
 })
 
@@ -20,7 +20,7 @@ returns-in-Ok-store-clause-run g c =
     let middle = state (g.D.Disk.files c.load.new.self) (g.D.Disk.failures c.load.new.self) (g.W.Sink.taken c.args.output.now) (g.W.Sink.failures c.args.output.now) in
     let after = state (g.D.Disk.files c.store.new.self) (g.D.Disk.failures c.store.new.self) (g.W.Sink.taken c.args.output.now) (g.W.Sink.failures c.args.output.now) in
     rw c.code.ensures.code (converted c.args.form c.in-Ok.octets.items c.args.from.now c.args.to.now before middle after c.in-Ok-store.field-0
-    c.in-Ok.ensures.found c.in-Ok.ensures.kept c.in-Ok.ensures.unfailed refl refl c.in-Ok-store.ensures)
+    c.in-Ok.ensures.loads.found c.in-Ok.ensures.loads.kept c.in-Ok.ensures.loads.unfailed refl refl c.in-Ok-store.ensures)
 
 pub returns-in-Err-store-clause-run : goal.returns-in-Err-store-clause-run
 returns-in-Err-store-clause-run g c =
@@ -30,4 +30,4 @@ returns-in-Err-store-clause-run g c =
     let ends : Ends before.printed after.printed before.print_failures after.print_failures (refusal_between c.args.from.now c.args.to.now c.in-Err-store.fault) c.report-in-Err-store.result =
     rw c.path_of.ensures at c.report-in-Err-store.ensures.ends in
     unconverted c.args.form c.in-Ok.octets.items c.args.from.now c.args.to.now before middle after c.report-in-Err-store.result c.in-Err-store.fault
-    c.in-Ok.ensures.found c.in-Ok.ensures.kept c.in-Ok.ensures.unfailed c.in-Err-store.ensures ends
+    c.in-Ok.ensures.loads.found c.in-Ok.ensures.loads.kept c.in-Ok.ensures.loads.unfailed c.in-Err-store.ensures ends

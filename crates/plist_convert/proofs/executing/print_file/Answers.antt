@@ -9,8 +9,8 @@ pub returns-in-Err-clause-run : goal.returns-in-Err-clause-run
 unfolding IsPrintRun
 returns-in-Err-clause-run g c = inl (record {
   fault = c.in-Err.fault;
-  cause = c.in-Err.ensures.refused;
-  kept = c.in-Err.ensures.kept;
+  cause = c.in-Err.ensures.loads.refused;
+  kept = c.in-Err.ensures.loads.kept;
   ends = c.report.ensures.ends;
 })
 
@@ -20,7 +20,7 @@ returns-in-Ok-print-clause-run g c =
     let after = state (g.D.Disk.files c.load.new.self) (g.D.Disk.failures c.load.new.self) (g.W.Sink.taken c.print.new.to) (g.W.Sink.failures c.print.new.to) in
     let same : c.as_slice.result.now ≡ c.in-Ok.octets.items = search rules in
     rw c.code.ensures.code (printed_whole c.in-Ok.octets.items c.args.path.now before after c.in-Ok-print.field-0
-    c.in-Ok.ensures.found c.in-Ok.ensures.kept c.in-Ok.ensures.unfailed (rw same at c.in-Ok-print.ensures.prints))
+    c.in-Ok.ensures.loads.found c.in-Ok.ensures.loads.kept c.in-Ok.ensures.loads.unfailed (rw same at c.in-Ok-print.ensures.prints))
 
 pub returns-clause-run : goal.returns-clause-run
 returns-clause-run g c =
@@ -32,4 +32,4 @@ returns-clause-run g c =
     let ends : Ends printed after.printed failures after.print_failures (refusal_between c.args.path.now standard c.in-Err-print.fault) c.report-in-Err-print.result =
     rw c.path_of.ensures at c.report-in-Err-print.ensures.ends in
     unprinted c.in-Ok.octets.items c.args.path.now before after c.report-in-Err-print.result printed failures c.in-Err-print.fault
-    c.in-Ok.ensures.found c.in-Ok.ensures.kept c.in-Ok.ensures.unfailed (rw same at c.in-Err-print.ensures.prints) ends
+    c.in-Ok.ensures.loads.found c.in-Ok.ensures.loads.kept c.in-Ok.ensures.loads.unfailed (rw same at c.in-Err-print.ensures.prints) ends
