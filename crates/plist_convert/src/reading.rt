@@ -2,8 +2,8 @@
 ghost use Rattle.std.specs.Prelude.{◌≡◌, ◌<◌, ◌≤◌, IfOk, length, map, option_map, Ok};
 ghost use Rattle.clap.specs.Words.{all_of, app_of, first_of, found_of, rows_of};
 ghost use Rattle.clap.specs.Words.{subcommand_rows_of};
-ghost use Rattle.plist_convert.specs.Asked.{asked_by, asked_at, check_at, convert_at};
-ghost use Rattle.plist_convert.specs.Asked.{explain_at, form_of, lint_at, print_at, same_at};
+ghost use Rattle.plist_convert.specs.Asked.{asked_by, asked_at, convert_at, explain_at, form_of};
+ghost use Rattle.plist_convert.specs.Asked.{print_at, same_at};
 ghost use Rattle.plist_convert.specs.CommandLine.{IsProgram};
 ghost use Rattle.plist_convert.specs.Reading.{IsReading};
 
@@ -61,8 +61,8 @@ fn request_of<'a>(
     match word {
         "convert" => Ok(convert_request(given)),
         "same" => Ok(same_request(given)),
-        "lint" => lint_request(alloc, given),
-        "check" => check_request(alloc, given),
+        "lint" => Ok(values(alloc, given, "IN")?.map(|paths| Request::Lint { paths })),
+        "check" => Ok(values(alloc, given, "IN")?.map(|paths| Request::Check { paths })),
         "print" => Ok(print_request(given)),
         "explain" => Ok(explain_request(given)),
         _ => Ok(None),
@@ -86,26 +86,6 @@ fn same_request<'a>(given: &ArgMatches<'a>) -> Option<Request<'a>>
         first: value(given, "A")?,
         second: value(given, "B")?,
     })
-}
-
-fn lint_request<'a>(
-    alloc: Global,
-    given: &ArgMatches<'a>,
-) -> Result<Option<Request<'a>>, AllocError>
-    ensures { IfOk result (λ request.
-        option_map asked_by request ≡ lint_at (rows_of (found_of given.now))) }
-{
-    Ok(values(alloc, given, "IN")?.map(|paths| Request::Lint { paths }))
-}
-
-fn check_request<'a>(
-    alloc: Global,
-    given: &ArgMatches<'a>,
-) -> Result<Option<Request<'a>>, AllocError>
-    ensures { IfOk result (λ request.
-        option_map asked_by request ≡ check_at (rows_of (found_of given.now))) }
-{
-    Ok(values(alloc, given, "IN")?.map(|paths| Request::Check { paths }))
 }
 
 fn print_request<'a>(given: &ArgMatches<'a>) -> Option<Request<'a>>
