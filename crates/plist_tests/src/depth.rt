@@ -3,7 +3,6 @@ use crate::texts::{LISTS, Parts, nested};
 use ostep_text::{TextFault, read_text, write_text};
 use plist_forms::{Fault, canonicalise};
 use plist_value::same;
-use std::alloc::{AllocError, Global};
 use std::test::Fail;
 use test_files::chain;
 
@@ -31,23 +30,16 @@ const ROWS: [(Parts, usize, Option<usize>); 11] = [
     (MIXED, 256, Some(1024)),
 ];
 
-// Returns the index of the first row with another result.
-fn first_wrong(alloc: Global) -> Result<Option<usize>, AllocError> {
-    for (index, (parts, times, octet)) in ROWS.iter().enumerate() {
-        let text = nested(alloc, parts, *times)?;
-        let fault = read_text(alloc, text.as_slice()).err();
-        let canonical = canonicalise(alloc, text.as_slice()).err();
-        let want = octet.map(|octet| TextFault::TooDeep { octet });
-        if fault != want || canonical != want.map(Fault::Text) {
-            return Ok(Some(index));
-        }
-    }
-    Ok(None)
-}
-
 #[test]
 fn texts_are_read_to_512_levels(rt: HostRuntime) -> Result<(), Fail> {
-    assert_eq!(rt; first_wrong(rt.alloc())?, None);
+    for (parts, times, octet) in ROWS {
+        let text = nested(rt.alloc(), &parts, times)?;
+        let want = octet.map(|octet| TextFault::TooDeep { octet });
+        let fault = read_text(rt.alloc(), text.as_slice()).err();
+        assert_eq!(rt; fault, want, "{parts:?} {times} times");
+        let fault = canonicalise(rt.alloc(), text.as_slice()).err();
+        assert_eq!(rt; fault, want.map(Fault::Text), "{parts:?} {times} times");
+    }
     Ok(())
 }
 

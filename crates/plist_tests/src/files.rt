@@ -41,50 +41,40 @@ const ALONE: [&[u8]; 35] = [
     b"\x62\xd8\x3d\xde\x00",
 ];
 
-// Files with several objects in sequence, and the width of a reference.
-const TOGETHER: [(&[&[u8]], u8); 17] = [
-    (&[b"\xd2\x01\x02\x02\x01", b"Qa", b"Qb"], 1),
-    (&[b"\xd2\x01\x02\x02\x01", b"Qb", b"Qa"], 1),
-    (&[b"\xd2\x02\x01\x01\x02", b"Qb", b"Qa"], 1),
-    (&[b"\xa2\x01\x02", b"Qa", b"\x41a"], 1),
-    (&[b"\xa2\x01\x01", b"\xa0"], 1),
-    (&[b"\xa2\x01\x02", b"\xa0", b"\xa0"], 1),
-    (
-        &[
-            b"\xd2\x01\x02\x03\x04",
-            b"\x62\xd8\x00\xdc\x00",
-            b"\x61\xff\x61",
-            b"Qb",
-            b"Qa",
-        ],
-        1,
-    ),
-    (&[b"\xa3\x01\x02\x03", b"X/usr/bin", b"Ta//b", b"Qd"], 1),
-    (&[b"\xd1\x01\x01", b"Qa"], 1),
-    (&[b"\xa1\x01", b"\x09"], 1),
-    (
-        &[
-            b"\xa2\x01\x02",
-            b"\x23\x41\0\0\0\0\0\0\0",
-            b"\x33\x41\0\0\0\0\0\0\0",
-        ],
-        1,
-    ),
-    (&[b"\xd1\x01\x01", b"\x09"], 1),
-    (&[b"\xd2\x01\x02\x03\x03", b"Qa", b"Qa", b"\x09"], 1),
-    (&[b"\xa1\x00\x00\x01", b"\x09"], 3),
-    (&[b"\xa2\x01\x02", b"RQa", b"Qa"], 1),
-    (
-        &[
-            b"\xd2\x01\x02\x03\x04",
-            b"^archiveVersion",
-            b"Wclasses",
-            b"Q1",
-            b"\xd0",
-        ],
-        1,
-    ),
-    (&[b"\xa1\x01", b"\xa0"], 1),
+// Files with several objects in sequence.
+const TOGETHER: [&[&[u8]]; 16] = [
+    &[b"\xd2\x01\x02\x02\x01", b"Qa", b"Qb"],
+    &[b"\xd2\x01\x02\x02\x01", b"Qb", b"Qa"],
+    &[b"\xd2\x02\x01\x01\x02", b"Qb", b"Qa"],
+    &[b"\xa2\x01\x02", b"Qa", b"\x41a"],
+    &[b"\xa2\x01\x01", b"\xa0"],
+    &[b"\xa2\x01\x02", b"\xa0", b"\xa0"],
+    &[
+        b"\xd2\x01\x02\x03\x04",
+        b"\x62\xd8\x00\xdc\x00",
+        b"\x61\xff\x61",
+        b"Qb",
+        b"Qa",
+    ],
+    &[b"\xa3\x01\x02\x03", b"X/usr/bin", b"Ta//b", b"Qd"],
+    &[b"\xd1\x01\x01", b"Qa"],
+    &[b"\xa1\x01", b"\x09"],
+    &[
+        b"\xa2\x01\x02",
+        b"\x23\x41\0\0\0\0\0\0\0",
+        b"\x33\x41\0\0\0\0\0\0\0",
+    ],
+    &[b"\xd1\x01\x01", b"\x09"],
+    &[b"\xd2\x01\x02\x03\x03", b"Qa", b"Qa", b"\x09"],
+    &[b"\xa2\x01\x02", b"RQa", b"Qa"],
+    &[
+        b"\xd2\x01\x02\x03\x04",
+        b"^archiveVersion",
+        b"Wclasses",
+        b"Q1",
+        b"\xd0",
+    ],
+    &[b"\xa1\x01", b"\xa0"],
 ];
 
 // Returns the canonical file of a dictionary, with one byte of its trailer changed.
@@ -113,6 +103,19 @@ pub(crate) fn numbers(alloc: Global, count: u8, width: u8) -> Result<Vec<u8>, Al
     draft.finish(2, width)
 }
 
+/// Returns these bytes, and then this one `count` times.
+pub(crate) fn padded(
+    alloc: Global,
+    head: &[u8],
+    count: usize,
+    octet: u8,
+) -> Result<Vec<u8>, AllocError> {
+    let mut octets = Vec::from_slice(alloc, head)?;
+    let size = head.len().saturating_add(count);
+    octets.resize(size, octet)?;
+    Ok(octets)
+}
+
 /// Returns the file of data of `count` zeros, with this marker and count, and offsets of `width`
 /// bytes.
 pub(crate) fn zeros(
@@ -121,11 +124,8 @@ pub(crate) fn zeros(
     count: u8,
     width: u8,
 ) -> Result<Vec<u8>, AllocError> {
-    let mut object = Vec::from_slice(alloc, head)?;
-    let size = head.len().saturating_add(usize::from(count));
-    object.resize(size, 0)?;
     let mut draft = Draft::new(alloc)?;
-    draft.put(object.as_slice())?;
+    draft.put(padded(alloc, head, usize::from(count), 0)?.as_slice())?;
     draft.finish(width, 1)
 }
 
@@ -136,9 +136,10 @@ pub(crate) fn files(alloc: Global) -> Result<Vec<Vec<u8>>, AllocError> {
     for object in ALONE {
         files.push(one(alloc, object)?)?;
     }
-    for (objects, width) in TOGETHER {
-        files.push(file_of(alloc, objects, width)?)?;
+    for objects in TOGETHER {
+        files.push(file_of(alloc, objects, 1)?)?;
     }
+    files.push(file_of(alloc, &[b"\xa1\x00\x00\x01", b"\x09"], 3)?)?;
     // Two strings of which one lies inside the other, an object in the header, and a trailer that
     // does not begin with zeros.
     files.push(file(alloc, b"\xa2\x01\x02RQa", &[8, 11, 12], 1)?)?;

@@ -63,9 +63,7 @@ fn binary_files_are_read(rt: HostRuntime) -> Result<(), Fail> {
         ),
     }
     let circular = file(rt.alloc(), &[0xa1, 0], &[8], 1)?;
-    let code = read(rt.alloc(), circular.as_slice())
-        .err()
-        .map_or(0, |fault| fault.code());
+    let code = code_of!(read(rt.alloc(), circular.as_slice()));
     assert!(rt; is_told(code, 15), "another refusal of a cycle");
     Ok(())
 }
@@ -129,10 +127,7 @@ fn files_are_checked(rt: HostRuntime) -> Result<(), Fail> {
         let is_right = answer == Ok(verdict) || answer == Err(CheckFault::OutOfMemory);
         assert!(rt; is_right, "another verdict");
     }
-    let code = check(rt.alloc(), TABLE_TEXT)
-        .err()
-        .map_or(0, |fault| fault.code());
-    assert_eq!(rt; code, 1);
+    assert_eq!(rt; code_of!(check(rt.alloc(), TABLE_TEXT)), 1);
     Ok(())
 }
 
@@ -140,18 +135,10 @@ fn files_are_checked(rt: HostRuntime) -> Result<(), Fail> {
 fn texts_are_read(rt: HostRuntime) -> Result<(), Fail> {
     for (octets, code) in TEXTS {
         let answers = [
-            read_text(rt.alloc(), octets)
-                .err()
-                .map_or(0, |fault| fault.code()),
-            judge_any(rt.alloc(), octets)
-                .err()
-                .map_or(0, |fault| fault.code()),
-            read_any(rt.alloc(), octets)
-                .err()
-                .map_or(0, |fault| fault.code()),
-            canonicalise(rt.alloc(), octets)
-                .err()
-                .map_or(0, |fault| fault.code()),
+            code_of!(read_text(rt.alloc(), octets)),
+            code_of!(judge_any(rt.alloc(), octets)),
+            code_of!(read_any(rt.alloc(), octets)),
+            code_of!(canonicalise(rt.alloc(), octets)),
         ];
         for answer in answers {
             assert!(rt; is_told(answer, code), "another refusal of a text");
@@ -186,9 +173,7 @@ fn texts_are_written(rt: HostRuntime) -> Result<(), Fail> {
     items.push(Value::Flag(true))?;
     let flags = Value::List(items);
     if fits(&flags) {
-        let code = write_text(rt.alloc(), &flags)
-            .err()
-            .map_or(0, |fault| fault.code());
+        let code = code_of!(write_text(rt.alloc(), &flags));
         assert!(rt; is_told(code, 40), "another refusal of a value");
     }
     Ok(())

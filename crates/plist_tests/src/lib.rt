@@ -3,6 +3,13 @@
 //! because a crate with tests loads the proofs of everything below it.
 #![tactic(auto)]
 
+/// The number of the refusal that a call returns, 0 if it returns none.
+macro_rules! code_of {
+    ($result:expr) => {
+        $result.err().map_or(0, |fault| fault.code())
+    };
+}
+
 #[cfg(test)]
 mod canonical_files;
 #[cfg(test)]

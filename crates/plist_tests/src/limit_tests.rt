@@ -1,7 +1,7 @@
 //! Generated files: the limits on depth, nodes and payload, as the validator, the reader and the
 //! check apply them, and the widths of references and offsets.
 use crate::canonical_files::canonical_file;
-use crate::files::{numbers, zeros};
+use crate::files::{numbers, padded, zeros};
 use plist_binary::{BinaryFault, judge, read};
 use plist_canon::{Verdict, canonical, check};
 use plist_forms::{Fault, canonicalise};
@@ -62,20 +62,16 @@ fn heavy_fan(
     letters: usize,
     width: u8,
 ) -> Result<Vec<u8>, AllocError> {
-    let mut object = Vec::from_slice(alloc, head)?;
-    let size = head.len().saturating_add(letters);
-    object.resize(size, b'a')?;
+    let object = padded(alloc, head, letters, b'a')?;
     fan(alloc, count, object.as_slice(), width)
 }
 
 // Returns a dictionary of 1,025 keys: 1,024 times a string of 524,288 units, and object `last`.
 fn heavy_keys(alloc: Global, last: u8) -> Result<Vec<u8>, AllocError> {
-    let mut table = Vec::from_slice(alloc, &[0xdf, 0x11, 0x04, 0x01])?;
-    table.resize(4 + 1024, 1)?;
+    let mut table = padded(alloc, &[0xdf, 0x11, 0x04, 0x01], 1024, 1)?;
     table.push(last)?;
     table.resize(4 + 2 * 1025, 2)?;
-    let mut text = Vec::from_slice(alloc, &[0x6f, 0x12, 0x00, 0x08, 0x00, 0x00])?;
-    text.resize(6 + 1_048_576, 0)?;
+    let text = padded(alloc, &[0x6f, 0x12, 0x00, 0x08, 0x00, 0x00], 1_048_576, 0)?;
     let mut draft = Draft::new(alloc)?;
     draft.put(table.as_slice())?;
     draft.put(text.as_slice())?;
@@ -239,23 +235,16 @@ fn is_answered(alloc: Global, octets: &[u8], answer: Answer) -> Result<bool, Fai
     }
 }
 
-// Returns the index of the first row with another result.
-fn wrong_row(alloc: Global) -> Result<Option<usize>, Fail> {
-    for (index, (shape, size, answer, broken)) in ROWS.iter().enumerate() {
-        let octets = shape.file(alloc)?;
-        let octets = octets.as_slice();
-        let checked = check(alloc, octets);
-        let is_right = octets.len() == *size && checked == Ok(verdict(*broken));
-        if !is_right || !is_answered(alloc, octets, *answer)? {
-            return Ok(Some(index));
-        }
-    }
-    Ok(None)
-}
-
 #[test]
 fn files_at_the_limits(rt: HostRuntime) -> Result<(), Fail> {
-    assert_eq!(rt; wrong_row(rt.alloc())?, None);
+    for (index, (shape, size, answer, broken)) in ROWS.iter().enumerate() {
+        let octets = shape.file(rt.alloc())?;
+        let octets = octets.as_slice();
+        assert_eq!(rt; octets.len(), *size, "row {index}");
+        let checked = check(rt.alloc(), octets);
+        assert_eq!(rt; checked, Ok(verdict(*broken)), "row {index}");
+        assert!(rt; is_answered(rt.alloc(), octets, *answer)?, "row {index}");
+    }
     Ok(())
 }
 
@@ -271,19 +260,11 @@ const SOURCES: [(Shape, Shape); 8] = [
     (Shape::Data(257, 3), Shape::Data(257, 4)),
 ];
 
-// Returns the index of the first source with another canonical file.
-fn wrong_source(alloc: Global) -> Result<Option<usize>, Fail> {
-    for (index, (source, own)) in SOURCES.iter().enumerate() {
-        let canonical = canonicalise(alloc, source.file(alloc)?.as_slice())?;
-        if canonical.as_slice() != own.file(alloc)?.as_slice() {
-            return Ok(Some(index));
-        }
-    }
-    Ok(None)
-}
-
 #[test]
 fn widths_are_the_least(rt: HostRuntime) -> Result<(), Fail> {
-    assert_eq!(rt; wrong_source(rt.alloc())?, None);
+    for (index, (source, own)) in SOURCES.iter().enumerate() {
+        let canonical = canonicalise(rt.alloc(), source.file(rt.alloc())?.as_slice())?;
+        assert!(rt; canonical == own.file(rt.alloc())?, "source {index}");
+    }
     Ok(())
 }

@@ -10,11 +10,9 @@ use std::test::Fail;
 // Returns the numbers of the refusals of the check, the reader and the lexer, 0 for none.
 fn codes(alloc: Global, octets: &[u8]) -> [u8; 3] {
     [
-        check(alloc, octets).err().map_or(0, |fault| fault.code()),
-        read_any(alloc, octets)
-            .err()
-            .map_or(0, |fault| fault.code()),
-        tokens(alloc, octets).err().map_or(0, |fault| fault.code()),
+        code_of!(check(alloc, octets)),
+        code_of!(read_any(alloc, octets)),
+        code_of!(tokens(alloc, octets)),
     ]
 }
 
