@@ -29,6 +29,7 @@ sandbox may (bench/no_random.c, built with cc).
 import itertools
 import os
 import random
+import shutil
 import struct
 import subprocess
 import sys
@@ -235,7 +236,7 @@ class Tries:
         library = self.path("no_random.so")
         source = os.path.join(HERE, "no_random.c")
         subprocess.run(["cc", "-shared", "-fPIC", "-O1", "-o", library, source], check=True)
-        self.refused = ["env", f"LD_PRELOAD={library}"]
+        self.refused = [shutil.which("env"), f"LD_PRELOAD={library}"]
 
     def path(self, name):
         return os.path.join(self.folder, name)
