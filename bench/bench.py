@@ -158,6 +158,7 @@ def targets(figures, growths):
         ("mixed", 0.1, 3),
         ("keys", 0.22, 3.5),
         ("chinese", 0.2, 4),
+        ("cyrillic", 0.25, 4),
         ("numbers", 0.12, 4),
     ):
         said.time(name, CRATE, time)

@@ -5,6 +5,7 @@ usage: python3 bench/files.py NAME SCALE PATH   (makes one file, in a separate p
 import datetime
 import plistlib
 import random
+import string
 import sys
 
 import texts
@@ -36,7 +37,8 @@ def keys(scale):
 
 
 def chinese(scale):
-    """Returns a dictionary of 80,000 keys, each of ideographs and a number, with strings of ideographs as values."""
+    """Returns a dictionary of 80,000 keys, each of ideographs and a number, with strings of
+    ideographs as values."""
     chance = random.Random(11)
 
     def ideographs(least, most):
@@ -49,6 +51,21 @@ def chinese(scale):
     }
 
 
+def cyrillic(scale):
+    """Returns a dictionary of 80,000 keys, each of two to four words in Cyrillic or ASCII letters
+    and a number, with strings of such words as values."""
+    chance = random.Random(12)
+    alphabets = (string.ascii_lowercase, "".join(map(chr, range(0x0430, 0x0450))))
+
+    def words(least, most):
+        return " ".join(
+            "".join(chance.choices(chance.choice(alphabets), k=chance.randint(3, 9)))
+            for _ in range(chance.randint(least, most))
+        )
+
+    return {f"{words(2, 4)} {number}": words(3, 8) for number in range(int(80_000 * scale))}
+
+
 def numbers(scale):
     """Returns an array of 1,000,000 distinct integers."""
     return list(range(int(1_000_000 * scale)))
@@ -59,7 +76,14 @@ def data(scale):
     return random.Random(5).randbytes(int(100_000_000 * scale))
 
 
-BINARY = {"mixed": mixed, "keys": keys, "chinese": chinese, "numbers": numbers, "data": data}
+BINARY = {
+    "mixed": mixed,
+    "keys": keys,
+    "chinese": chinese,
+    "cyrillic": cyrillic,
+    "numbers": numbers,
+    "data": data,
+}
 TEXTS = {
     "project": lambda scale: texts.project(int(10_000_000 * scale)),
     "strings": lambda scale: texts.strings(int(9_000_000 * scale), "utf-8"),
