@@ -1,4 +1,5 @@
-# Completion of plistconv for fish.
+# Completion of plistconv for fish. A name with a dash gets no `./` as in the other shells, since fish
+# offers no word that begins with a dot.
 
 # Succeeds if the argument COUNT of one of these commands is completed.
 function __plistconv_argument -a count
