@@ -65,7 +65,7 @@ pub fn judge_file(alloc: Global, octets: &[u8]) -> Result<JudgedFile<'_>, Binary
     let known = Walker { alloc, visitor }.top()?;
     Ok(JudgedFile {
         file,
-        order: known.order,
+        order: known.order.renewed(&file),
         writable: known.writable,
     })
 }

@@ -1,5 +1,5 @@
 -- What the key order keeps of dictionaries, and the rows that it sorts.
-use Rattle.std.specs.Prelude.{◌≡◌, ◌↔◌, ℕ, ◌+◌, ◌*◌, ◌^◌, ◌<◌, Bool, IsTrue, List, [], All}
+use Rattle.std.specs.Prelude.{◌≡◌, ◌↔◌, ℕ, ◌+◌, ◌*◌, ◌^◌, ◌<◌, IsTrue, List, [], All}
 use Rattle.std.specs.Prelude.{EachIndex, IfSome, length, map, slice_index, slice_index_or}
 use Rattle.std.specs.declared.cmp.Ordering.{Ordering}
 use Rattle.std.specs.declared.cmp.Ordering.TheVariants.{Less}
@@ -19,6 +19,7 @@ use Rattle.plist_object.specs.Ranks.{AreRanks, texts_of}
 use Rattle.plist_object.specs.declared.ranks.Ranks.{Ranks}
 use Rattle.plist_object.specs.declared.order.Row.{Row}
 use Rattle.plist_object.specs.declared.order.KeyOrder.{KeyOrder}
+use Rattle.plist_object.specs.declared.sorted_keys.SortedKeys.{SortedKeys}
 
 abbrev pub index_of : Row → ℕ
 index_of row = row.index
@@ -64,19 +65,18 @@ pub record AreRows (texts : List TextRef) (rows : List Row) : Type 0 where
   pub moved : IsPermutation (range_with_len 0 (length texts)) (map index_of rows)
   pub tell : All (λ row. All (TellsOrder texts row) rows) rows
 
--- the kept positions are the order of the last dictionary's keys, and `distinct` says whether these
--- are distinct
-pub record IsLast (f keys indices : List ℕ) (distinct : Bool) : Type 0 where
-  pub order : IsInOrder f keys indices
-  pub tells : IsTrue distinct ↔ Ascend f keys indices
+-- the positions are the order of the keys, and `distinct` says whether these are distinct
+pub record IsSortedIn (f : List ℕ) (sorted : SortedKeys) : Type 0 where
+  pub order : IsInOrder f (numbers_of sorted.keys) sorted.indices.items
+  pub tells : IsTrue sorted.distinct ↔ Ascend f (numbers_of sorted.keys) sorted.indices.items
 
 -- the positions of the keys sorted last, in order
 abbrev pub indices_of : KeyOrder → List ℕ
-indices_of order = order.indices.items
+indices_of order = order.last.indices.items
 
--- what is kept of the last dictionary is correct, and the ranks are those of this file
+-- the kept orders are correct, and the ranks are those of this file
 pub record IsReady (f : List ℕ) (order : KeyOrder) : Type 0 where
-  pub last : IfSome order.last
-      (λ keys. IsLast f (numbers_of keys) order.indices.items order.distinct)
+  pub last : IsSortedIn f order.last
+  pub longest : IsSortedIn f order.longest
   pub ascending : IfSome order.ascending (λ keys. AreAscending f (numbers_of keys))
   pub ranks : AreRanks f order.ranks

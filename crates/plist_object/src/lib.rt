@@ -19,6 +19,7 @@ mod reading;
 pub mod refs;
 mod reserved;
 pub mod shortest;
+mod sorted_keys;
 mod units;
 
 pub use judged_file::JudgedFile;

@@ -12,7 +12,7 @@ ghost use Rattle.plist_object.specs.Objects.{holds_scalar};
 ghost use Rattle.plist_object.specs.Places.{Holds, HoldsText};
 ghost use Rattle.plist_object.specs.Views.{numbers_of, octets_of};
 ghost use Rattle.plist_object.specs.Order.{Ascend, IsInOrder, NameTexts};
-ghost use Rattle.plist_object.specs.KeyOrder.{AreRows, AreTexts, IsRankOf, IsReady, TellsOrder};
+ghost use Rattle.plist_object.specs.KeyOrder.{AreRows, AreTexts, IsRankOf, IsReady, IsSortedIn, TellsOrder};
 ghost use Rattle.plist_object.specs.KeyOrder.{by_number, sort_key, index_of, indices_of, row_units};
 ghost use Rattle.plist_object.specs.Ranks.{AreRanks};
 
@@ -22,9 +22,11 @@ use crate::lengths::to_u32;
 use crate::prefixes;
 use crate::ranks::Ranks;
 use crate::refs::Refs;
+use crate::sorted_keys::SortedKeys;
 use plist_value::TextRef;
 use std::alloc::{AllocError, Global};
 use std::cmp::Ordering;
+use std::mem;
 
 // Up to this number of keys are sorted by their strings alone.
 const FEW_KEYS: usize = 12;
@@ -62,15 +64,15 @@ struct Rows<'a> {
 
 /// Sorts the keys of a file's dictionaries.
 ///
-/// Most dictionaries have the same keys as the one before, so the last order is kept. Other keys
-/// are sorted by their strings, until the strings compared so far are longer in all than the file.
-/// Then all keys are ranked, once, and from there on ranks are compared.
+/// Most dictionaries have the same keys as the one before, so the last order is kept, and that of
+/// the longest dictionary, which is often asked for again after others. Other keys are sorted by
+/// their strings, until the strings compared so far are longer in all than the file. Then all keys
+/// are ranked, once, and from there on ranks are compared.
 #[derive(Drop)]
 pub struct KeyOrder<'a> {
-    last: Option<Refs<'a>>,
-    indices: Vec<u32>,
-    // Whether no two of these keys are equal.
-    distinct: bool,
+    last: SortedKeys<'a>,
+    // The longest keys that were sorted before the last.
+    longest: SortedKeys<'a>,
     // The keys that were last found to ascend in the order of the file.
     pub(crate) ascending: Option<Refs<'a>>,
     // The number of UTF-16 units that may still be compared; `None` once the keys are ranked.
@@ -84,9 +86,8 @@ impl<'a> KeyOrder<'a> {
         ensures { (f : List ℕ) → IsReady f result }
     {
         KeyOrder {
-            last: None,
-            indices: Vec::new(alloc),
-            distinct: true,
+            last: SortedKeys::none(alloc),
+            longest: SortedKeys::none(alloc),
             ascending: None,
             left: Some(file.table()),
             ranks: Ranks::none(alloc),
@@ -98,7 +99,20 @@ impl<'a> KeyOrder<'a> {
     pub fn indices(&self) -> &[u32]
         ensures { result.now ≡ indices_of self.now }
     {
-        &self.indices
+        &self.last.indices
+    }
+
+    /// Returns the order for another pass over the file, which may compare as many units as a new
+    /// order.
+    pub fn renewed(self, file: &BinFile<'a>) -> KeyOrder<'a>
+        requires { IsReady (octets_of file.now) self }
+        ensures { IsReady (octets_of file.now) result }
+    {
+        let mut order = self;
+        if order.left.is_some() {
+            order.left = Some(file.table());
+        }
+        order
     }
 
     /// Sorts the keys of a dictionary and returns whether no two are equal.
@@ -121,19 +135,43 @@ impl<'a> KeyOrder<'a> {
             ↔ Ascend (octets_of file.now) (numbers_of keys.now) (indices_of self.new)) }
         ensures ready { IsReady (octets_of file.now) self.new }
     {
-        if let Some(last) = self.last
-            && last.is_same(keys)
-        {
-            return Ok(self.distinct);
+        if self.longest.keys.is_same(keys) {
+            mem::swap(&mut self.last, &mut self.longest);
         }
+        if self.last.keys.is_same(keys) {
+            return Ok(self.last.distinct);
+        }
+        let sorted = self.sorted(alloc, file, keys)?;
+        let distinct = sorted.distinct;
+        let before = mem::replace(&mut self.last, sorted);
+        if before.keys.len() > self.longest.keys.len() {
+            self.longest = before;
+        }
+        Ok(distinct)
+    }
+
+    // Returns the keys with their order.
+    fn sorted(
+        &mut self,
+        alloc: Global,
+        file: &BinFile<'a>,
+        keys: &Refs<'a>,
+    ) -> Result<SortedKeys<'a>, AllocError>
+        requires names { NameTexts (octets_of file.now) (numbers_of keys.now) }
+        requires ready { IsReady (octets_of file.now) self.old }
+        ensures keys { IfOk result (λ sorted. numbers_of sorted.keys ≡ numbers_of keys.now) }
+        ensures sorted { IfOk result (IsSortedIn (octets_of file.now)) }
+        ensures ready { IsReady (octets_of file.now) self.new }
+    {
         let Rows { texts, mut list } = self.rows(alloc, file, keys)?;
         sort_rows(&mut list, &texts);
         let distinct = ascend(&list, &texts);
         let indices = indices_in_order(alloc, &list)?;
-        self.last = Some(*keys);
-        self.indices = indices;
-        self.distinct = distinct;
-        Ok(distinct)
+        Ok(SortedKeys {
+            keys: *keys,
+            indices,
+            distinct,
+        })
     }
 
     // Returns the keys of a dictionary, with numbers that agree with their order.

@@ -15,6 +15,7 @@ use Rattle.plist_binary.proofs.ItemSteps.{RefusesKey-value, RefusesKey-other}
 use Rattle.plist_binary.proofs.Making.{IsWithinLimits-spent, AreStates-but, AreStates-visited, Reads-scalar, Refuses-payload}
 use Rattle.plist_binary.proofs.PassSteps.{IsKey-read}
 use Rattle.plist_binary.proofs.Writable.{HasText-of, HaveTexts-marked}
+use Rattle.std.proofs.lemmas.Grind.{pieces}
 use Rattle.plist_binary.proofs.visiting.Visitor.key.Goals as goal
 
 pub returns-in_err-enter-clause-refused : goal.returns-in_err-enter-clause-refused
@@ -87,3 +88,6 @@ returns-clause-progress c =
       ready = so_far.ready;
       within = IsWithinLimits-spent so_far.within spent;
     }
+
+pub returns-in_err-mark-clause-refused : goal.returns-in_err-mark-clause-refused
+returns-in_err-mark-clause-refused c = search (pieces, arith)

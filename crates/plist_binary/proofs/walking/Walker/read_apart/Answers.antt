@@ -31,7 +31,7 @@ returns-then-not-branch-clause-refused c =
     let read = c.in_ok-keys.ensures.read in
     let before = c.args.progress.now.left in
     let not_distinct : IsDistinct same_key read.0 → ⊥ = λ distinct.
-    let told = c.in_ok-sort.ensures.distinct.1 (ascend_distinct f refs c.sort.new.self.indices.items read.0 read.1.spell c.in_ok-sort.ensures.order distinct) in
+    let told = c.in_ok-sort.ensures.distinct.1 (ascend_distinct f refs c.sort.new.self.last.indices.items read.0 read.1.spell c.in_ok-sort.ensures.order distinct) in
     let said = c.if-not-branch.true in
     cc in
     record {
@@ -42,7 +42,7 @@ pub returns-clause-read : goal.returns-clause-read
 returns-clause-read c =
     let f = octets_of c.args.self.now.visitor.file in
     let refs = numbers_of c.args.refs in
-    let places = c.sort.new.self.indices.items in
+    let places = c.sort.new.self.last.indices.items in
     let read = c.in_ok-keys.ensures.read in
     ReadsApart-sorted f refs c.args.levels c.args.progress.now.left c.keys.new.progress.left read.0 (strings_at f refs places) read.1 (strings_moved f refs places read.0 read.1.spell c.in_ok-sort.ensures.order) (c.in_ok-sort.ensures.distinct.0 c.if-not-branch.false)
 

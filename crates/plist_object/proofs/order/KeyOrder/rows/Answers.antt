@@ -13,6 +13,7 @@ returns-clause-ready c =
     elim c.match-self.branch [
       | in-Some+in_ok-texts+in_default-checked_sub+in_ok-of_reached+in_ok-self w ↦ rw w.self-is record {
         last = c.requires.ready.last;
+        longest = c.requires.ready.longest;
         ascending = c.requires.ready.ascending;
         ranks = w.in_ok-self.ensures;
       }
