@@ -1,5 +1,5 @@
 #!/usr/bin/env python3
-"""Times two programs on fifteen inputs of other shapes than those of bench.py.
+"""Times two programs on sixteen inputs of other shapes than those of bench.py.
 
 usage: bench/shapes.py PROGRAM OTHER [--runs N] [--only NAME,..] [--scale S]
                        [--command ARGUMENTS] [--bench] [--instructions]
@@ -51,6 +51,16 @@ def long_dictionaries(chance, scale):
     return [
         {name: len(name) + side for name in chance.sample(names, len(names))} for side in range(2)
     ]
+
+
+def own_keys(chance, scale):
+    """Dictionaries below a short one, each with 500 keys of its own, in no order."""
+    return {
+        f"part {part}": {
+            f"{chance.randrange(2**32):08x} of part {part}": number for number in range(500)
+        }
+        for part in range(int(400 * scale))
+    }
 
 
 def letters(chance, scale):
@@ -151,6 +161,7 @@ def coordinates_text(chance, scale):
 BINARY = {
     "rotation": rotation,
     "long dictionaries": long_dictionaries,
+    "own keys": own_keys,
     "letters": letters,
     "chinese strings": chinese_strings,
     "hashes": hashes,

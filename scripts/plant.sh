@@ -17,6 +17,9 @@ fi
 copied
 proved_below "${names[@]}" || exit 1
 
+# Drops the comments within enums, which `rt plant` would copy into its bodies, where they do not compile.
+export UNCOMMENTED='/^(pub(\([a-z]+\))? )?enum /{within = 1} /^}/{within = 0} !(within && /^ *\/\//)'
+
 # Tries wrong bodies in one crate, and prints those that its contracts accept. The toolchain locks a crate and all below
 # it, and some of those may be planted too, so each crate is planted in a copy of its own. All but the crate are links.
 plant() {
@@ -26,6 +29,9 @@ plant() {
     cp -al "$copy/crates" "$own/"
     rm -rf "$own/crates/$1"
     cp -a "$copy/crates/$1" "$own/crates/"
+    find "$own/crates/$1/src" -name '*.rt' | while read -r file; do
+        awk "$UNCOMMENTED" "$file" > "$copy/$1.rt" && cp "$copy/$1.rt" "$file"
+    done
     (cd "$own/crates/$1" && rt plant --minutes "${MINUTES:-4}" --jobs 1) > "$copy/$1.log" 2>&1 || {
         echo "$1: not planted"
         tail -n 5 "$copy/$1.log" | sed 's/^/    /'
