@@ -23,7 +23,7 @@ TOP = Path(__file__).resolve().parent.parent
 LIST = "scripts/out_of_memory.txt"
 TESTS = {"plist_tests", "program_tests", "rows", "test_files"}
 NAMES = re.compile(
-    r"\b(?:OutOfMemory|NoMemory|AllocError|AllocFailed|(?<!fn )report_no_memory)\b|(?:=>|\breturn)\s*60\b"
+    r"\b(?:OutOfMemory|NoMemory|AllocError|AllocFailed|(?<!fn )report_no_memory)\b|\b(?:60|0x3[cC])(?:_?u8)?\b(?!\s*(?:\||=>))"
 )
 PATTERN = re.compile(r"\b(?:OutOfMemory|NoMemory|AllocError)\b|^60$")
 STRING = re.compile(r"""b?"(?:[^"\\]|\\.)*"|b?'(?:[^'\\\n]|\\[^\n]+?)'""", re.DOTALL)
@@ -75,6 +75,8 @@ def code_of(text):
         elif found["clause"]:
             at = closed(text, at)
             done.append(blank(text[found.start() : at]))
+        elif re.search(r"\b(?:AllocError|AllocFailed|OutOfMemory|NoMemory)\s+as\b", found[0]):
+            done.append(found[0])
         else:
             done.append(blank(found[0]))
     return "".join(done) + text[at:]

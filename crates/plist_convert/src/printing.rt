@@ -1,5 +1,5 @@
 //! Printing, and the exit status that results.
-ghost use Rattle.std.specs.Prelude.{◌≡◌, ◌↔◌, MatchResult, IsTrue, false};
+ghost use Rattle.std.specs.Prelude.{◌≡◌, ◌↔◌, ◌⊎◌, IfOk, IsOkAnd, MatchResult, IsTrue, false, string_bytes};
 ghost use Rattle.clap.specs.Words.{kind_of};
 ghost use Rattle.plist_forms.specs.Status.{status_code};
 ghost use Rattle.plist_convert.specs.Answer.{refusal, said_of};
@@ -60,7 +60,24 @@ pub(crate) fn explain<W: Sink>(alloc: Global, error: &Error, output: &mut W) -> 
     ensures same { W.device output.new ≡ W.device output.old }
 {
     let status = status_of(error);
-    match format!(in alloc; "{error}") {
+    tell(format!(in alloc; "{error}"), status, output)
+}
+
+/// Prints the message, or the line for out of memory if there is none.
+fn tell<W: Sink>(message: Result<String, AllocError>, status: Status, output: &mut W) -> u8
+    ensures told { IfOk message (λ text. IsExplanation (status_code status) (string_bytes text)
+        → Prints (W.taken output.old) (W.taken output.new)
+        (W.failures output.old) (W.failures output.new)
+        (record { text = string_bytes text; status = status_code status }) result) }
+    ensures ends { IsOkAnd message (λ text. IsExplanation (status_code status) (string_bytes text)
+        × Prints (W.taken output.old) (W.taken output.new)
+        (W.failures output.old) (W.failures output.new)
+        (record { text = string_bytes text; status = status_code status }) result)
+        ⊎ Prints (W.taken output.old) (W.taken output.new)
+        (W.failures output.old) (W.failures output.new) no_memory_said result }
+    ensures same { W.device output.new ≡ W.device output.old }
+{
+    match message {
         Ok(text) if explains(text.as_str(), status) => print(output, text.as_str(), status),
         _ => report_no_memory(output),
     }

@@ -160,7 +160,7 @@ fn alike_wide(first: &TextRef, text: &TextRef, most: usize) -> usize
 {
     match (first.wide_octets(), text.wide_octets()) {
         (Some(octets), Some(others)) => alike_pairs(octets, others, most),
-        _ => alike_units(first, text, most),
+        _ => first.alike(text, most),
     }
 }
 
@@ -205,19 +205,6 @@ fn alike_blocks(octets: &[u8], others: &[u8], most: usize) -> usize
         start = end;
     }
     start
-}
-
-fn alike_units(first: &TextRef, text: &TextRef, most: usize) -> usize
-    requires { (most ≤ length (units_of first.now)) × (most ≤ length (units_of text.now)) }
-    ensures within { result ≤ most }
-    ensures same { take result (units_of text.now) ≡ take result (units_of first.now) }
-{
-    for i in 0..most {
-        if first.unit(i) != text.unit(i) {
-            return i;
-        }
-    }
-    most
 }
 
 // Returns the sort prefix of the units after the first `front`.

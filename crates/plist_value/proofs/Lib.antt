@@ -8,3 +8,4 @@ pub mod Shown
 pub mod Rows
 pub mod BelowAscii
 pub mod HexDigits
+pub mod Behind

@@ -9,6 +9,7 @@ pub mod hashers;
 pub mod hexadecimal;
 pub mod laws;
 pub mod limits;
+mod mixed;
 pub mod refusals;
 pub mod scalar_ref;
 mod text_hash;

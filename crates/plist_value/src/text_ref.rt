@@ -1,5 +1,5 @@
 //! Borrowed strings.
-ghost use Rattle.std.specs.Prelude.{◌≡◌, ◌<◌, ◌*◌, ◌/◌, ◌%◌, ◌↔◌, IsSome, IfSome, All, true};
+ghost use Rattle.std.specs.Prelude.{◌≡◌, ◌≢◌, ◌<◌, ◌≤◌, ◌*◌, ◌/◌, ◌%◌, ◌↔◌, IsSome, IfSome, All, true};
 ghost use Rattle.std.specs.Prelude.{nat_eq, nat_lt, length, slice_index, take};
 ghost use Rattle.std.specs.List.{list_all};
 ghost use Rattle.std.specs.Ordering.{nat_cmp, on, as_partial_cmp};
@@ -13,6 +13,7 @@ ghost use Rattle.plist_value.specs.Texts.{units_of, wide_units};
 ghost use Rattle.plist_value.specs.Texts.{is_ascii_kept, is_units_kept, is_wide_kept};
 
 use crate::ascii::Ascii;
+use crate::mixed::alike_mixed;
 use crate::text_hash::feed_text;
 use crate::words::feed_octets;
 use std::cmp::Ordering;
@@ -131,6 +132,26 @@ impl<'a> TextRef<'a> {
         }
     }
 
+    /// Returns the number of leading units that both share, up to `most`, which is at most either
+    /// length. Fast if one string was created by `of_ascii` and the other by `of_wide`.
+    pub fn alike(&self, other: &TextRef, most: usize) -> usize
+        requires { (most ≤ length (units_of self.now)) × (most ≤ length (units_of other.now)) }
+        ensures within { result ≤ most }
+        ensures same { take result (units_of other.now) ≡ take result (units_of self.now) }
+        ensures differ { result < most
+            → slice_index (units_of self.now) result ≢ slice_index (units_of other.now) result }
+    {
+        match (self.kept, other.kept) {
+            (Kept::Ascii(ascii), Kept::Wide(pairs)) => {
+                alike_mixed(ascii.text.as_bytes(), pairs, most)
+            }
+            (Kept::Wide(pairs), Kept::Ascii(ascii)) => {
+                alike_mixed(ascii.text.as_bytes(), pairs, most)
+            }
+            _ => alike_units(self, other, most),
+        }
+    }
+
     /// Returns the units, if the string was created by `of_units`.
     pub fn units(&self) -> Option<&'a [u16]>
         ensures text { IfSome result (λ units. units_of self.now ≡ units.now) }
@@ -186,7 +207,7 @@ fn plain_unit(units: &[u16], i: usize) -> u16
 }
 
 // Returns the unit in the bytes `2 * i` and `2 * i + 1`.
-fn wide_unit(octets: &[u8], i: usize) -> u16
+pub(crate) fn wide_unit(octets: &[u8], i: usize) -> u16
     requires { i < length (wide_units octets.now) }
     ensures { result ≡ slice_index (wide_units octets.now) i }
 {
@@ -284,35 +305,33 @@ fn whole_pairs(octets: &[u8]) -> &[u8]
 fn same_units(text: &TextRef, other: &TextRef) -> bool
     ensures { result ≡ pointwise nat_eq (units_of text.now) (units_of other.now) }
 {
-    if text.len() != other.len() {
-        return false;
-    }
-    for i in 0..text.len() {
-        if text.unit(i) != other.unit(i) {
-            return false;
-        }
-    }
-    true
+    text.len() == other.len() && text.alike(other, text.len()) == text.len()
 }
 
 fn compare_units(text: &TextRef, other: &TextRef) -> Ordering
     ensures { result ≡ slice_cmp nat_cmp (units_of text.now) (units_of other.now) }
 {
-    for i in 0..text.len() {
-        if i >= other.len() {
-            return Ordering::Greater;
-        }
-        let (unit, other_unit) = (text.unit(i), other.unit(i));
-        if unit < other_unit {
-            return Ordering::Less;
-        }
-        if unit > other_unit {
-            return Ordering::Greater;
+    let most = text.len().min(other.len());
+    let i = text.alike(other, most);
+    if i == most {
+        return text.len().cmp(&other.len());
+    }
+    let (unit, other_unit) = (text.unit(i), other.unit(i));
+    unit.cmp(&other_unit)
+}
+
+// Works for each way of storing the strings.
+fn alike_units(text: &TextRef, other: &TextRef, most: usize) -> usize
+    requires { (most ≤ length (units_of text.now)) × (most ≤ length (units_of other.now)) }
+    ensures within { result ≤ most }
+    ensures same { take result (units_of other.now) ≡ take result (units_of text.now) }
+    ensures differ { result < most
+        → slice_index (units_of text.now) result ≢ slice_index (units_of other.now) result }
+{
+    for i in 0..most {
+        if text.unit(i) != other.unit(i) {
+            return i;
         }
     }
-    if text.len() < other.len() {
-        Ordering::Less
-    } else {
-        Ordering::Equal
-    }
+    most
 }

@@ -1,6 +1,6 @@
 //! A buffered writer over a sink.
 ghost use Rattle.std.specs.Prelude.{◌≡◌, ◌+◌, ◌≤◌, ◌^◌, ◌∷◌, ◌++◌, [], length, IfErr, IfOk};
-ghost use Rattle.std.specs.Prelude.{IsErr, OnOk};
+ghost use Rattle.std.specs.Prelude.{IsErr, OnErr, OnOk, ◌<◌};
 ghost use Rattle.plist_write.specs.declared.faults.WriteFault.TheVariants.{OutOfMemory};
 ghost use Rattle.plist_write.specs.declared.faults.WriteFault.TheVariants.{WriteFailed};
 ghost use Rattle.plist_write.specs.Sending.{sent_of};
@@ -64,6 +64,7 @@ impl<'a, W: Sink> BufferedSink<'a, W> {
     /// Fails like [`flush`](BufferedSink::flush).
     pub fn flush_if_full(&mut self) -> Result<(), WriteFault>
         ensures emits { Emits [] (sink_state W.Sink self.old) (sink_state W.Sink self.new) result }
+        ensures short { OnOk result (length self.new.waiting.now.items < 4096) }
         ensures cause { IfErr result (λ fault. fault ≡ OutOfMemory (sent_of fault)
             → 2 ^ 64 ≤ self.old.sent + length self.old.waiting.now.items) }
     {
@@ -101,6 +102,8 @@ impl<'a, W: Sink> BufferedSink<'a, W> {
         ensures emits { Emits [] (sink_state W.Sink self.old) (sink_state W.Sink self.new) result }
         ensures none { OnOk result (self.new.waiting.now.items ≡ []) }
         ensures cause { IfErr result (λ fault. fault ≡ WriteFailed (sent_of fault)) }
+        ensures failed { OnErr result (self.new.waiting.now.items ≡ self.old.waiting.now.items) }
+        ensures counted { OnErr result (self.new.sent ≡ self.old.sent) }
         ensures pieces { KeepsShort [] 0
             (sink_state W.Sink self.old) (sink_state W.Sink self.new) result }
     {

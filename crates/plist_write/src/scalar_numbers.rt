@@ -98,8 +98,9 @@ impl<'a, S: BuildHasher> ScalarNumbers<'a, S> {
             → EntersScalar scalar.entry next self.old self.new had) }
         ensures refused { OnErr result (KeepsScalars self.old self.new) }
     {
-        if self.hashed.len() == MANY {
-            self.hashed.reserve(likely(next, self.most))?;
+        let known = self.hashed.len();
+        if is_due(known) {
+            self.hashed.reserve(likely(known, next, self.most))?;
         }
         let (index, had) = self.hashed.insert_full(scalar, next)?;
         // A scalar that has a number keeps it.
@@ -113,8 +114,13 @@ impl<'a, S: BuildHasher> ScalarNumbers<'a, S> {
 // Estimates how many scalars there will be: there are `MANY` among the first `so_far` objects, and
 // there will be at most `most` objects. To reserve more would make lookups slower, and a map that
 // is too small still grows.
-fn likely(so_far: u32, most: usize) -> usize {
-    most.saturating_mul(MANY) / (so_far as usize).max(MANY)
+fn likely(known: usize, so_far: u32, most: usize) -> usize {
+    let all = most.saturating_mul(known) / (so_far as usize).max(known).max(1);
+    all.min(known.saturating_mul(7))
+}
+
+fn is_due(known: usize) -> bool {
+    known == MANY || known == 8 * MANY || known == 64 * MANY
 }
 
 /// Returns whether the scalar is data that takes long to hash.

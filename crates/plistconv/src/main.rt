@@ -26,23 +26,39 @@ fn arguments(rt: &HostRuntime) -> io::Result<Vec<String>> {
 fn status(rt: &HostRuntime, arguments: io::Result<Vec<String>>) -> u8
     ensures run { IfOk arguments (λ owned.
         IsHostRun (map (λ word. string_bytes word) owned.items) None None None result
-        ⊎ ((result ≡ 5) ⊎ (result ≡ 4))) }
+        ⊎ ((failures : ℕ) × Prints None None 0 failures no_memory result)) }
     ensures words { IfErr arguments (λ error.
         error_kind error ≢ ErrorKind.OutOfMemory → (result ≡ 3) ⊎ (result ≡ 4)) }
 {
     let mut output = rt.stdout();
-    let ran = match arguments {
-        Ok(arguments) => answer(rt, arguments.as_slice(), &mut rt.stdin(), &mut output),
-        Err(error) if error.kind() != ErrorKind::OutOfMemory => {
-            return refuse(
-                &mut output,
-                "error: a word is not UTF-8\n",
-                Status::BadWords.code(),
-            );
-        }
-        Err(_) => Err(AllocError),
-    };
-    ended(&mut output, ran)
+    match arguments {
+        Ok(arguments) => obey(rt, arguments.as_slice(), &mut rt.stdin(), &mut output),
+        Err(error) if error.kind() != ErrorKind::OutOfMemory => refuse(
+            &mut output,
+            "error: a word is not UTF-8\n",
+            Status::BadWords.code(),
+        ),
+        Err(_) => ended(&mut output, Err(AllocError)),
+    }
+}
+
+/// Runs the program on these arguments and returns its exit status. Prints a line if out of memory
+/// before it begins.
+fn obey<I: Read, O: Write>(
+    rt: &HostRuntime,
+    arguments: &[String],
+    input: &mut I,
+    output: &mut O,
+) -> u8
+    ensures { IsHostRun (map (λ word. string_bytes word) arguments.now)
+        (I.remaining input.old) (O.contents output.old) (O.contents output.new) result
+        ⊎ ((failures : ℕ) × Prints (O.contents output.old) (O.contents output.new) 0 failures
+        no_memory result) }
+{
+    match answer(rt, arguments, input, output) {
+        Ok(status) => status,
+        Err(error) => ended(output, Err(error)),
+    }
 }
 
 /// Runs the program on these arguments and returns its exit status.
@@ -52,8 +68,9 @@ fn answer<I: Read, O: Write>(
     input: &mut I,
     output: &mut O,
 ) -> Result<u8, AllocError>
-    ensures { IfOk result (λ status. IsHostRun (map (λ word. string_bytes word) arguments.now)
+    ensures run { IfOk result (λ status. IsHostRun (map (λ word. string_bytes word) arguments.now)
         (I.remaining input.old) (O.contents output.old) (O.contents output.new) status) }
+    ensures nothing { IfErr result (λ _. O.contents output.new ≡ O.contents output.old) }
 {
     let alloc = rt.alloc();
     let words = borrowed(alloc, arguments)?;

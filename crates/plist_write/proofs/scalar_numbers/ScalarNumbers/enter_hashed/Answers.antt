@@ -15,8 +15,8 @@ number_among entries r = lookup (on content_of scalar_eq r) entries
 pub returns-in-Some-clause-entered : goal.returns-in-Some-clause-entered
 returns-in-Some-clause-entered g c = λ unlisted.
     let old = c.args.self.now.hashed.entries in
-    let grown = c.if-len-eq-MANY.self.hashed.entries in
-    let listed : c.if-len-eq-MANY.self.listed ≡ c.args.self.now.listed = search rules in
+    let grown = c.if-is_due.self.hashed.entries in
+    let listed : c.if-is_due.self.listed ≡ c.args.self.now.listed = search rules in
     let same : grown ≡ old = search rules in
     let found : number_among grown c.args.scalar ≡ Some c.in-Some.number = sym c.in_ok-index.ensures.old ∙ c.in-Some.is in
     let back : set_value_at c.insert_full.new.self.entries c.in_ok-index.index c.in-Some.number ≡ grown =
@@ -28,8 +28,8 @@ returns-in-Some-clause-entered g c = λ unlisted.
 pub returns-in_default-clause-entered : goal.returns-in_default-clause-entered
 returns-in_default-clause-entered g c = λ unlisted.
     let old = c.args.self.now.hashed.entries in
-    let grown = c.if-len-eq-MANY.self.hashed.entries in
-    let listed : c.if-len-eq-MANY.self.listed ≡ c.args.self.now.listed = search rules in
+    let grown = c.if-is_due.self.hashed.entries in
+    let listed : c.if-is_due.self.listed ≡ c.args.self.now.listed = search rules in
     let same : grown ≡ old = search rules in
     let missed : None ≡ number_among grown c.args.scalar = sym c.in_default.is ∙ c.in_ok-index.ensures.old in
     rw c.in_default.is (enters-added c.args.scalar c.args.next c.args.self.now _ unlisted listed
