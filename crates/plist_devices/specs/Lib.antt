@@ -1,5 +1,6 @@
 pub mod Count
 pub mod Device
+pub mod GrowingSink
 pub mod ListSink
 pub mod ListSource
 pub mod ReaderSource

@@ -189,8 +189,7 @@ impl<'a> KeyOrder<'a> {
         ensures ready { IsReady (octets_of file.now) self.new }
     {
         if let Some(left) = self.left {
-            let texts = texts_of(alloc, file, keys)?;
-            if let Some(rest) = left.checked_sub(units_in(&texts)) {
+            if let Some((texts, rest)) = texts_within(alloc, file, keys, left)? {
                 self.left = Some(rest);
                 return text_rows(alloc, texts);
             }
@@ -256,13 +255,30 @@ fn texts_of<'a>(
     Ok(texts)
 }
 
-// Returns the total length of the strings, in units.
-fn units_in(texts: &[TextRef]) -> u64 {
-    let mut units: u64 = 0;
-    for text in texts {
-        units = units.saturating_add(text.len() as u64);
+// Returns the strings of the keys and what is left of this number of units, or `None` if they have
+// more. The strings after that are not decoded, so that a long string that is a key many times
+// costs little.
+fn texts_within<'a>(
+    alloc: Global,
+    file: &BinFile<'a>,
+    keys: &Refs,
+    left: u64,
+) -> Result<Option<(Vec<TextRef<'a>>, u64)>, AllocError>
+    requires { NameTexts (octets_of file.now) (numbers_of keys.now) }
+    ensures { IfOk result (λ found. IfSome found (λ within. AreTexts (octets_of file.now)
+        (numbers_of keys.now) within.0.items)) }
+{
+    let mut rest = left;
+    let mut texts = Vec::with_capacity(alloc, keys.len() as usize)?;
+    for index in 0..keys.len() {
+        let text = text_of(file, keys.get(index));
+        rest = match rest.checked_sub(text.len() as u64) {
+            Some(rest) => rest,
+            None => return Ok(None),
+        };
+        texts.push(text)?;
     }
-    units
+    Ok(Some((texts, rest)))
 }
 
 // Returns the keys with these strings, sorted and numbered by sort prefixes if they are many.

@@ -1,5 +1,5 @@
 //! The canonical file, in memory.
-ghost use Rattle.std.specs.Prelude.{◌≡◌, None, Some, IfOk};
+ghost use Rattle.std.specs.Prelude.{◌≡◌, IfOk};
 ghost use Rattle.plist_value.specs.Plist.{Plist};
 ghost use Rattle.plist_object.specs.KeyOrder.{IsReady};
 ghost use Rattle.plist_object.specs.Spelled.{IsBinary};
@@ -7,40 +7,10 @@ ghost use Rattle.plist_object.specs.Views.{octets_of};
 ghost use Rattle.plist_write.specs.Canonical.{canon};
 
 use crate::sending::write_canonical_of;
-use crate::{DeviceFault, Sink};
+use plist_devices::GrowingSink;
 use plist_object::JudgedFile;
 use std::alloc::{AllocError, Global};
 use std::hash::BuildHasher;
-
-/// A sink that appends to a vector.
-#[derive(Drop)]
-struct GrowingSink {
-    octets: Vec<u8>,
-    failures: u64,
-}
-
-impl Sink for GrowingSink {
-    ghost taken = { λ sink. Some sink.octets.items };
-
-    ghost failures = { λ sink. sink.failures };
-
-    fn put(&mut self, piece: &[u8]) -> Result<usize, DeviceFault> {
-        if self.failures == u64::MAX {
-            return Err(DeviceFault);
-        }
-        match self.octets.extend_from_slice(piece) {
-            Ok(()) => Ok(piece.len()),
-            Err(_) => {
-                self.failures += 1;
-                Err(DeviceFault)
-            }
-        }
-    }
-
-    fn failures(&self) -> u64 {
-        self.failures
-    }
-}
 
 /// Returns the canonical file of the value that the file encodes.
 ///
@@ -64,12 +34,9 @@ pub fn canonical_of<S: BuildHasher + Copy>(
     ensures { IfOk result (λ octets. (v : Plist) → IsBinary (octets_of judged.entry.file) v
         → octets.items ≡ canon v) }
 {
-    let mut sink = GrowingSink {
-        octets: Vec::new(alloc),
-        failures: 0,
-    };
+    let mut sink = GrowingSink::new(alloc);
     match write_canonical_of(alloc, hasher, judged, &mut sink) {
-        Ok(_) => Ok(sink.octets),
+        Ok(_) => Ok(sink.into_octets()),
         Err(_) => Err(AllocError),
     }
 }

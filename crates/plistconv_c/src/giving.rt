@@ -1,6 +1,6 @@
 //! Writing to a buffer of the caller.
 ghost use Rattle.std.specs.Prelude.{◌≡◌, IfErr, IfOk};
-ghost use Rattle.plistconv_c.specs.Answers.{IsDescribed};
+ghost use Rattle.plistconv_c.specs.Answers.{IsDescribed, gathered_fault};
 ghost use Rattle.plistconv_c.specs.Given.{IsGiven};
 ghost use Rattle.plistconv_c.specs.Refusals.{no_refusal};
 
@@ -39,4 +39,15 @@ pub(crate) fn give(octets: &[u8], into: &mut [u8], length: &mut usize) -> u8
         into[..octets.len()].copy_from_slice(octets);
     }
     0
+}
+
+// Converts the fault of a call that writes to a `GrowingSink`. Such a write fails only if out of
+// memory, and the caller has then received nothing.
+pub(crate) fn unsent(fault: Fault) -> Fault
+    ensures { result ≡ gathered_fault fault }
+{
+    match fault {
+        Fault::WriteFailed { .. } | Fault::OutOfMemory { .. } => Fault::OutOfMemory { sent: 0 },
+        _ => fault,
+    }
 }

@@ -7,7 +7,6 @@
 mod checking;
 mod faults;
 mod files;
-mod gathering;
 mod giving;
 mod inputs;
 mod keys;

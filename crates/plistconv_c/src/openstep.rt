@@ -7,9 +7,9 @@ ghost use Rattle.plistconv_c.specs.Answers.{IsMade, IsUnmade};
 ghost use Rattle.plistconv_c.specs.Texts.{IsTextFault};
 
 use crate::Refusal;
-use crate::gathering::{Gathering, unsent};
-use crate::giving::give_output;
+use crate::giving::{give_output, unsent};
 use crate::inputs::admit;
+use plist_devices::GrowingSink;
 use plist_forms::{Fault, write_openstep};
 use std::alloc::Global;
 
@@ -43,9 +43,9 @@ fn written_text(alloc: Global, octets: &[u8]) -> Result<Vec<u8>, Fault>
     ensures refused { IfErr result (IsTextFault octets.now) }
 {
     admit(octets)?;
-    let mut text = Gathering::new(alloc);
+    let mut text = GrowingSink::new(alloc);
     match write_openstep(alloc, octets, &mut text) {
-        Ok(_) => Ok(text.octets),
+        Ok(_) => Ok(text.into_octets()),
         Err(fault) => Err(unsent(fault)),
     }
 }

@@ -6,9 +6,9 @@ ghost use Rattle.plistconv_c.specs.Answers.{IsMade, IsUnmade};
 ghost use Rattle.plistconv_c.specs.Inputs.{IsInputRefused};
 
 use crate::Refusal;
-use crate::gathering::{Gathering, unsent};
-use crate::giving::give_output;
+use crate::giving::{give_output, unsent};
 use crate::inputs::admit;
+use plist_devices::GrowingSink;
 use plist_forms::{Fault, print};
 use std::alloc::Global;
 
@@ -42,9 +42,9 @@ fn printed_text(alloc: Global, octets: &[u8]) -> Result<Vec<u8>, Fault>
     ensures refused { IfErr result (IsInputRefused octets.now) }
 {
     admit(octets)?;
-    let mut text = Gathering::new(alloc);
+    let mut text = GrowingSink::new(alloc);
     match print(alloc, octets, &mut text) {
-        Ok(_) => Ok(text.octets),
+        Ok(_) => Ok(text.into_octets()),
         Err(fault) => Err(unsent(fault)),
     }
 }
