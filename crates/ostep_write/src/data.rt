@@ -4,8 +4,9 @@ ghost use Rattle.plist_value.specs.Digits.{two_digits};
 ghost use Rattle.plist_write.specs.BufferedSink.{Emits, sink_state};
 ghost use Rattle.ostep_text.specs.Written.{written_data};
 
+use plist_devices::Sink;
 use plist_value::put_digits;
-use plist_write::{BufferedSink, Sink, WriteFault};
+use plist_write::{BufferedSink, WriteFault};
 
 // The maximum number of bytes whose digits are appended at once.
 const RUN: usize = 2048;

@@ -7,8 +7,9 @@ ghost use Rattle.plist_write.specs.BufferedSink.{Emits, PutsPiece, sink_state};
 ghost use Rattle.ostep_text.specs.Written.{quoted_unit, written_text};
 
 use ostep_text::{is_plain, put_quoted_unit};
+use plist_devices::Sink;
 use plist_value::TextRef;
-use plist_write::{BufferedSink, Sink, WriteFault};
+use plist_write::{BufferedSink, WriteFault};
 use std::alloc::AllocError;
 
 // The maximum number of bytes that are appended at once.

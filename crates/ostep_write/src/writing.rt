@@ -11,9 +11,10 @@ ghost use Rattle.ostep_write.specs.Writing.{written_parts};
 
 use crate::data::write_data;
 use crate::strings::write_string;
+use plist_devices::Sink;
 use plist_object::JudgedFile;
 use plist_value::{ScalarRef, TextRef};
-use plist_write::{BufferedSink, Mark, Notation, Sink, WriteFault, write_in_notation};
+use plist_write::{BufferedSink, Mark, Notation, WriteFault, write_in_notation};
 use std::alloc::Global;
 
 /// Writes the OpenStep text of the file's value, object by object, and returns its length in bytes.

@@ -16,5 +16,6 @@ mod weights;
 mod writing;
 
 pub use checking::{CheckFault, Verdict, check, check_with_hasher};
-pub use plist_write::{DeviceFault, ListSink, Sink, WriteFault};
+pub use plist_devices::{DeviceFault, ListSink, Sink};
+pub use plist_write::WriteFault;
 pub use writing::{canonical, canonical_with_hasher, write_canonical, write_canonical_with_hasher};

@@ -7,7 +7,8 @@ ghost use Rattle.plist_write.specs.Canonical.{canon, objects_of};
 ghost use Rattle.plist_write.specs.Sending.{ArePieces, IsWritten};
 ghost use Rattle.plist_write.specs.Tree.{preorder};
 
-use crate::{Sink, WriteFault};
+use crate::WriteFault;
+use plist_devices::Sink;
 use plist_draft::{Draft, put_value};
 use plist_object::{BinFile, JudgedFile};
 use plist_value::{FixedHasher, Value};

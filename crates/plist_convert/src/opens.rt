@@ -79,7 +79,7 @@ pub trait Opens {
         ensures limit { limit self.new ≡ limit self.old };
 }
 
-/// An opener whose reads never fail, if it knows the files.
+/// An opener whose readers have never failed, if it knows the files.
 pub trait Steady: Opens {
     ghost steady: { (opener : Self) → IfSome (Self.files opener)
         (λ _. (reader : Self.Reader) → Self.Reader.failures reader ≡ 0) };

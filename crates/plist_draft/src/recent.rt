@@ -7,13 +7,13 @@ use plist_value::FixedHasher;
 use std::alloc::{AllocError, Global};
 use std::hash::{BuildHasher, Hasher};
 
-/// The number of slots at first and at most. The largest table has 512 KiB, which fits a
-/// processor's cache.
+// The number of slots of the first table.
 const LEAST: usize = 64;
 
+// The number of slots of the largest table: 512 KiB, which fits a processor's cache.
 const MOST: usize = 65_536;
 
-/// The entry of an empty slot: no object has this number.
+// The entry of an empty slot: no object has this number.
 const NOTHING: Entry = Entry {
     number: u32::MAX,
     hash: 0,

@@ -47,7 +47,7 @@ impl<'a> KeyOrder<'a> {
             self.left = Some(rest);
             return Ok(true);
         }
-        let mut named = Keys::of_tables(alloc, file, file.count())?;
+        let mut named = Keys::of_tables(alloc, file)?;
         self.ranks = named.ranks(alloc, file)?;
         self.left = None;
         Ok(!named.overlap())

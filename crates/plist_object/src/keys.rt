@@ -34,19 +34,14 @@ pub(crate) struct Keys<'a> {
 }
 
 impl<'a> Keys<'a> {
-    // Collects the keys of the dictionaries up to object `last`. Stops early at the first
-    // dictionary that cannot be read, at the first key that is no string, or if dictionaries or
-    // strings overlap.
-    pub(crate) fn of_tables(
-        alloc: Global,
-        file: &BinFile<'a>,
-        last: u64,
-    ) -> Result<Keys<'a>, AllocError>
+    // Collects the keys of all dictionaries. Stops early at the first dictionary that cannot be
+    // read, at the first key that is no string, or if dictionaries or strings overlap.
+    pub(crate) fn of_tables(alloc: Global, file: &BinFile<'a>) -> Result<Keys<'a>, AllocError>
         ensures { IfOk result (λ keys. AreKeys (octets_of file.now) keys) }
     {
         let mut keys = Keys::none(alloc, file)?;
         for i in 0..file.count() {
-            if i > last || !keys.add_table(file, i)? {
+            if !keys.add_table(file, i)? {
                 return Ok(keys);
             }
         }

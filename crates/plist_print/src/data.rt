@@ -7,8 +7,9 @@ ghost use Rattle.plist_print.specs.Units.{printed_data};
 ghost use Rattle.plist_print.specs.Printed.{indent, octet_lines, printed_line};
 
 use crate::layout::{end_lines, put_indent};
+use plist_devices::Sink;
 use plist_value::put_digits;
-use plist_write::{BufferedSink, Sink, WriteFault};
+use plist_write::{BufferedSink, WriteFault};
 use std::alloc::AllocError;
 
 // The number of bytes of data on a full line.

@@ -54,7 +54,7 @@ fn second_of(octets: &[u8; 8]) -> Option<u64>
     whole_second(bits >= 0x8000_0000_0000_0000, decimal)
 }
 
-// Like [`second_of`], from the sign and the decimal of the date.
+// Like [`second_of`], given the sign of the date and its magnitude in decimal.
 fn whole_second(negative: bool, decimal: Decimal) -> Option<u64>
     ensures value { result ≡ (if (decimal.digits == 1) && (decimal.numerator % 10 == 0)
         then second_at negative (decimal.numerator / 10) else None) }
@@ -67,7 +67,8 @@ fn whole_second(negative: bool, decimal: Decimal) -> Option<u64>
     }
 }
 
-// Like [`second_of`], from the number of whole seconds before 2001, or since.
+// Returns the number of seconds from 0001-01-01T00:00:00Z to the date that is this many seconds
+// before 2001 if `negative`, and else after its start. `None` outside the years 1 to 9999.
 fn second_at(negative: bool, seconds: u128) -> Option<u64>
     ensures value { result ≡ second_at negative seconds }
     ensures within { IfSome result (λ second. second < 86_400 * days_before 10_000) }

@@ -7,8 +7,9 @@ ghost use Rattle.plist_print.specs.Printed.{indent};
 ghost use Rattle.plist_print.specs.Printing.{pair_head};
 
 use crate::lines::print_text;
+use plist_devices::Sink;
 use plist_value::TextRef;
-use plist_write::{BufferedSink, Sink, WriteFault};
+use plist_write::{BufferedSink, WriteFault};
 use std::alloc::AllocError;
 
 // Two spaces for each of 32 levels.

@@ -9,7 +9,7 @@ mod decimals;
 mod invisible;
 pub mod laws;
 mod layout;
-pub mod lines;
+mod lines;
 mod numbers;
 pub mod printing;
 mod reals;

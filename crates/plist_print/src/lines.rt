@@ -12,8 +12,9 @@ use crate::dates::put_date;
 use crate::reals::{put_double, put_single};
 use crate::strings::put_some;
 use itoa::Buffer;
+use plist_devices::Sink;
 use plist_value::{ScalarRef, TextRef};
-use plist_write::{BufferedSink, Sink, WriteFault};
+use plist_write::{BufferedSink, WriteFault};
 use std::alloc::AllocError;
 
 /// Writes a scalar up to the end of its last line. `level` is the level of the line that it begins
@@ -23,7 +24,7 @@ use std::alloc::AllocError;
 ///
 /// [`WriteFault::WriteFailed`] (51) if the sink fails, and [`WriteFault::OutOfMemory`] (60) if out
 /// of memory for a piece, or if the output would exceed `u64::MAX` bytes.
-pub fn print_scalar<W: Sink>(
+pub(crate) fn print_scalar<W: Sink>(
     scalar: &ScalarRef,
     level: u64,
     out: &mut BufferedSink<W>,
@@ -89,7 +90,10 @@ fn print_text_line<W: Sink>(text: &TextRef, out: &mut BufferedSink<W>) -> Result
 /// # Errors
 ///
 /// Fails like [`print_scalar`].
-pub fn print_text<W: Sink>(text: &TextRef, out: &mut BufferedSink<W>) -> Result<(), WriteFault>
+pub(crate) fn print_text<W: Sink>(
+    text: &TextRef,
+    out: &mut BufferedSink<W>,
+) -> Result<(), WriteFault>
     ensures emits { Emits (printed_text (units_of text.now))
         (sink_state W.Sink out.old) (sink_state W.Sink out.new) result }
 {

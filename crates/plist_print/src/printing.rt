@@ -10,9 +10,10 @@ ghost use Rattle.plist_print.specs.Printing.{printed_parts};
 
 use crate::layout::{begin_line, begin_pair};
 use crate::lines::print_scalar;
+use plist_devices::Sink;
 use plist_object::JudgedFile;
 use plist_value::{ScalarRef, TextRef};
-use plist_write::{BufferedSink, Mark, Notation, Sink, WriteFault, write_in_notation};
+use plist_write::{BufferedSink, Mark, Notation, WriteFault, write_in_notation};
 use std::alloc::Global;
 
 /// Writes the printed text of the file's value, object by object, and returns its length in bytes.

@@ -91,7 +91,8 @@ const DEEP: BinaryFault = BinaryFault::TooDeep { object: 512 };
 
 const NODES: BinaryFault = BinaryFault::TooManyNodes { object: 512 };
 
-/// What object 511 is, and the refusal in a file that is `deep`, and in one that is `full`.
+/// The objects from number 511 on, the refusal if all are at the depth limit (`deep`), and the
+/// refusal if they also come after the last node allowed (`full`).
 const ROWS: [(Objects, BinaryFault, BinaryFault); 6] = [
     (NO_OBJECT, REFERENCE, REFERENCE),
     (TOP, CYCLE, CYCLE),

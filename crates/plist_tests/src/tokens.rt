@@ -66,7 +66,8 @@ fn plain_of(octets: &[u8]) -> Result<Option<(&[u8], usize)>, LexFault> {
     }
 }
 
-// An input, and its first string if that is read as bytes in place, with the offset after it.
+// An input. If its first token is a string that is stored as bytes: these bytes, and the offset
+// after the token.
 const PLAIN: [(&[u8], Option<(&[u8], usize)>); 11] = [
     (b" \ta-1/$;", Some((b"a-1/$", 7))),
     (b"\"a 'b' \"c", Some((b"a 'b' ", 8))),

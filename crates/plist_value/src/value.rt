@@ -19,7 +19,7 @@ pub enum Value {
     Real4([u8; 4]),
     /// A real of eight bytes, as in a file.
     Real8([u8; 8]),
-    /// A date, as the eight bytes in a file.
+    /// A date: a big-endian `f64`, the number of seconds since 2001-01-01 00:00:00 UTC.
     Moment([u8; 8]),
     /// Data, as bytes.
     Bytes(Vec<u8>),

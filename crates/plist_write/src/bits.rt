@@ -120,7 +120,7 @@ fn any_bit_of(mask: u32, seed: u64, scalar: &ScalarRef) -> u32
 }
 
 /// Returns the integer that the scalar contains, or `None` if the scalar is negative or no integer.
-pub fn as_u64(scalar: ScalarRef) -> Option<u64>
+fn as_u64(scalar: ScalarRef) -> Option<u64>
     ensures { result ≡ as_u64 (content_of scalar.entry) }
 {
     match scalar {

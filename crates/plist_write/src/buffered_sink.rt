@@ -6,8 +6,8 @@ ghost use Rattle.plist_write.specs.declared.faults.WriteFault.TheVariants.{Write
 ghost use Rattle.plist_write.specs.Sending.{sent_of};
 ghost use Rattle.plist_write.specs.BufferedSink.{CanTake, Emits, KeepsShort, sink_state};
 
-use crate::{Sink, WriteFault};
-use plist_devices::put_all;
+use crate::WriteFault;
+use plist_devices::{Sink, put_all};
 use std::alloc::AllocError;
 
 /// The number of buffered bytes from which on the buffer is flushed. No piece of a canonical file

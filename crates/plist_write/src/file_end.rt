@@ -6,7 +6,8 @@ ghost use Rattle.plist_write.specs.Canonical.{trailer_octets};
 ghost use Rattle.plist_write.specs.BufferedSink.{CanTake, Emits, KeepsShort, end_of, sink_state};
 
 use crate::new_objects::put_trailer;
-use crate::{BufferedSink, Sink, WriteFault};
+use crate::{BufferedSink, WriteFault};
+use plist_devices::Sink;
 use plist_object::{put_number, width_of};
 
 /// The size of a trailer.

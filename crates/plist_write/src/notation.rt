@@ -6,7 +6,8 @@ ghost use Rattle.plist_write.specs.BufferedSink.{Emits, sink_state};
 ghost use Rattle.plist_write.specs.Notation.{Parts};
 ghost use Rattle.plist_write.specs.declared.notation.Mark.TheVariants.{TableStart};
 
-use crate::{BufferedSink, Sink, WriteFault};
+use crate::{BufferedSink, WriteFault};
+use plist_devices::Sink;
 use plist_value::{ScalarRef, TextRef};
 
 /// A part of the text that depends on no value and no level.

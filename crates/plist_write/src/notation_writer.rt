@@ -19,7 +19,8 @@ ghost use Rattle.plist_write.specs.Notation.{text_in, document_in};
 use crate::notation::{Mark, Notation};
 use crate::objects::object_of;
 use crate::order::sorted_references;
-use crate::{BufferedSink, Sink, WriteFault};
+use crate::{BufferedSink, WriteFault};
+use plist_devices::Sink;
 use plist_object::{BinFile, JudgedFile, KeyOrder, Object, Refs, text_of};
 use std::alloc::Global;
 

@@ -15,7 +15,7 @@ use std::alloc::{AllocError, Global};
 /// # Errors
 ///
 /// [`AllocError`] if out of memory.
-pub fn push_sorted<'a>(
+pub(crate) fn push_sorted<'a>(
     alloc: Global,
     file: &BinFile<'a>,
     order: &mut KeyOrder<'a>,

@@ -115,7 +115,8 @@ fn put_references(line: &mut String, references: Refs) -> Result<(), AllocError>
     Ok(())
 }
 
-// Where the text begins, followed by each token: where it begins and ends, and what it is.
+// Returns a line with the offset of the text after a byte order mark, and for each token its first
+// offset, the offset after it, and its content.
 fn answer_tokens(alloc: Global, name: &str, octets: &[u8]) -> Result<String, AllocError> {
     let found = match tokens(alloc, octets) {
         Ok(found) => found,

@@ -1,4 +1,4 @@
-use Rattle.std.proofs.Common.{◌*◌, ◌<◌, ◌≤◌, length, arith}
+use Rattle.std.proofs.Common.{arith}
 use Rattle.plist_value.proofs.WideUnits.{length-wide_units}
 use Rattle.plist_object.proofs.Alike.{same_units}
 use Rattle.plist_object.proofs.prefixes.alike_pairs.Goals as goal
