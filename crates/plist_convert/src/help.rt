@@ -29,7 +29,8 @@ the disk is full, that file is lost: plistconv-canonicalise replaces a file in
 one step. Prints nothing on success, else one line that says what is refused.
 
 An OpenStep text holds strings, data, arrays and dictionaries. A value with a
-number, a boolean or a date has none, and is refused with 40.
+number, a boolean or a date has none, and is refused with 40. Comments and the
+layout of a text are not kept.
 
 Messages are on standard output, usage errors too: check the exit status.
 

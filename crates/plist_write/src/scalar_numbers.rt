@@ -9,8 +9,8 @@ use plist_value::ScalarRef;
 use std::alloc::{AllocError, Global};
 use std::hash::BuildHasher;
 
-// The map grows by itself up to this number of scalars. Then space is reserved for all that are
-// likely to come.
+// The map grows by itself up to this number of scalars. Then, and at 8 and at 64 times as many,
+// space is reserved for those that are likely to come.
 const MANY: usize = 8_192;
 
 // Data of at least this many bytes is long.
@@ -111,14 +111,15 @@ impl<'a, S: BuildHasher> ScalarNumbers<'a, S> {
     }
 }
 
-// Estimates how many scalars there will be: there are `MANY` among the first `so_far` objects, and
-// there will be at most `most` objects. To reserve more would make lookups slower, and a map that
-// is too small still grows.
+// Estimates how many scalars are still to come: there are `known` among the first `so_far` objects,
+// and there will be at most `most` objects. Returns at most seven times as many as are known, since
+// a map that is too large makes lookups slower, and one that is too small still grows.
 fn likely(known: usize, so_far: u32, most: usize) -> usize {
     let all = most.saturating_mul(known) / (so_far as usize).max(known).max(1);
     all.min(known.saturating_mul(7))
 }
 
+// Returns whether to reserve space for more scalars, now that this number is known.
 fn is_due(known: usize) -> bool {
     known == MANY || known == 8 * MANY || known == 64 * MANY
 }
