@@ -7,6 +7,7 @@ A value is a pair (kind, content): ('text', units), ('whole', n), ('flag', b), (
 ('real8', octets), ('moment', octets), ('bytes', octets), ('list', values), ('table',
 {units: value}). Units are a tuple of numbers."""
 import datetime
+import re
 import sys
 import unicodedata
 from fractions import Fraction
@@ -824,9 +825,9 @@ def limited(octets):
 
 def topic(text):
     """Returns what a text names: `14 DuplicateKey`, `C5`, or None."""
-    mark = next((mark for mark in ("refused ", "broken ") if mark in text), "")
-    word = text.rpartition(mark)[2] if mark else text
-    word = word.partition(" ")[0]
+    words = [word for word in re.split("[ \t\n\f\r]", text) if word]
+    marked = [word for mark, word in zip(words, words[1:]) if mark in ("refused", "broken")]
+    word = marked[-1] if marked else "".join(words[:1])
     for code, name in {**NAMES, **OTHER_NAMES}.items():
         if word == str(code) or (word.isascii() and word.lower() == name.lower()):
             return "%d %s" % (code, name)

@@ -1,5 +1,5 @@
 pub mod Found
-pub mod Marks
-pub mod Quiet
+pub mod Words
+pub mod Numbers
 pub mod Reported
 pub mod Covered

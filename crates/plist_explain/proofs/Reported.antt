@@ -1,106 +1,98 @@
 -- The lines that are printed for refusals and for broken rules name what they report.
-use Rattle.std.proofs.Common.{ap, append_assoc, arith, refl, subst, suc, true, List, None, Some, [], ◌∷◌, ◌++◌, ◌∙◌, ◌≡◌, ◌<◌, ◌==◌, ℕ}
-use Rattle.std.specs.Prelude.{codes, option_map, unwrap_or}
+use Rattle.std.proofs.Common.{ap, append_assoc, arith, refl, suc, sym, List, None, Option, Some, [], ◌∷◌, ◌++◌, ◌∙◌, ◌≡◌, ◌<◌, ℕ}
+use Rattle.std.specs.Prelude.{codes, if◌then◌else◌, option_map, unwrap_or}
 use Rattle.std.specs.Fmt.{decimal, digits}
-use Rattle.std.specs.List.{before_first}
 use Rattle.std.specs.Option.{option_or}
-use Rattle.plist_value.specs.Refusals.{name_of, number_of, place_text, report_text}
+use Rattle.plist_value.specs.Refusals.{name_of, number_of, report_text}
 use Rattle.plist_value.specs.declared.refusals.Place.{Place}
 use Rattle.plist_value.specs.declared.refusals.Place.TheVariants.{Nowhere, Object, Octet, After}
 use Rattle.plist_value.specs.declared.refusals.Refusal.{Refusal}
 use Rattle.plist_value.specs.declared.refusals.Refusal.TheVariants.{TooShort}
-use Rattle.plist_value.specs.declared.refusals.Report.{Report}
+use Rattle.plist_explain.specs.declared.topics.Subject.{Subject}
 use Rattle.plist_explain.specs.declared.topics.Subject.TheVariants as subject
-use Rattle.plist_explain.specs.Topics.{ExplainsReports, ExplainsVerdicts, after_front, after_last, entry_named, label, refusal_entries, report_in, rule_entries}
-use Rattle.plist_explain.proofs.Quiet.{is_quiet, mark_after, no_digit_b, no_digit_r, number_quiet, quiet_before, quiet_place}
+use Rattle.plist_explain.specs.Topics.{ExplainsReports, ExplainsVerdicts, entry_named, first_of, is_mark, refusal_entries, reported, rule_entries, word_in, words}
+use Rattle.plist_explain.proofs.Numbers.{quiet_before, quiet_number}
+use Rattle.plist_explain.proofs.Words.{words_before}
 
--- no mark in a label that a blank follows, or nothing
-blank_after : (refusal : Refusal) (rest : List ℕ) → is_quiet (codes "refused ") (label (subject.Refusal refusal)) (32 ∷ rest) ≡ true
+-- a report after any words
+behind : (front ws : List (List ℕ)) (word : List ℕ) → reported ws ≡ Some word → reported (front ++ ws) ≡ Some word
+behind [] ws word e = e
+behind (w ∷ front) ws word e = ap (λ r. option_or r (if is_mark w then first_of (front ++ ws) else None)) (behind front ws word e)
+
+-- the word of a line, and of the line behind a path
+alone : (line word : List ℕ) → reported (words line) ≡ Some word → word_in line ≡ word
+alone line word e = ap (λ r. unwrap_or (option_or r (first_of (words line))) []) e
+
+at_path : (path line word : List ℕ) → reported (words line) ≡ Some word → word_in (path ++ (58 ∷ (32 ∷ line))) ≡ word
+at_path path line word e =
+    let front = path ++ (58 ∷ []) in
+    ap word_in (sym (append_assoc path (58 ∷ []) (32 ∷ line)))
+    ∙ ap (λ ws. unwrap_or (option_or (reported ws) (first_of ws)) []) (words_before front 32 line refl)
+    ∙ ap (λ r. unwrap_or (option_or r (first_of (words front ++ words line))) []) (behind (words front) (words line) word e)
+
+-- no mark is in the place of a report
+object_quiet : (n : ℕ) → reported (words (codes "at object " ++ decimal n)) ≡ None
+object_quiet n = rw (quiet_number n) refl
+
+octet_quiet : (n : ℕ) → reported (words (codes "at octet " ++ decimal n)) ≡ None
+octet_quiet n = rw (quiet_number n) refl
+
+after_quiet : (n : ℕ) → reported (words (codes "after " ++ (decimal n ++ codes " octets"))) ≡ None
+after_quiet n = rw (quiet_before n (codes " octets") refl refl) refl
+
+-- the number of a refusal, without a place and with one
+refused_nowhere : (refusal : Refusal) → reported (words (codes "refused " ++ (decimal (number_of refusal) ++ (32 ∷ (name_of refusal ++ []))))) ≡ Some (decimal (number_of refusal))
 unfolding digits
-blank_after TooShort rest = refl
-blank_after _ rest = refl
+refused_nowhere TooShort = refl
+refused_nowhere _ = refl
 
-alone : (refusal : Refusal) → is_quiet (codes "refused ") (label (subject.Refusal refusal)) [] ≡ true
+refused_at : (refusal : Refusal) (rest : List ℕ) → reported (words rest) ≡ None
+    → reported (words (codes "refused " ++ (decimal (number_of refusal) ++ (32 ∷ (name_of refusal ++ (32 ∷ rest)))))) ≡ Some (decimal (number_of refusal))
 unfolding digits
-alone TooShort = refl
-alone _ = refl
+refused_at TooShort rest none = rw none refl
+refused_at _ rest none = rw none refl
 
-quiet_label : (refusal : Refusal) (place : Place) → is_quiet (codes "refused ") (label (subject.Refusal refusal)) (place_text place) ≡ true
-quiet_label refusal Nowhere = alone refusal
-quiet_label refusal (Object n) = blank_after refusal (codes "at object " ++ decimal n)
-quiet_label refusal (Octet n) = blank_after refusal (codes "at octet " ++ decimal n)
-quiet_label refusal (After n) = blank_after refusal (codes "after " ++ (decimal n ++ codes " octets"))
+refused : (refusal : Refusal) (place : Place)
+    → reported (words (codes "refused " ++ report_text (record { 0 = refusal; 1 = place }))) ≡ Some (decimal (number_of refusal))
+refused refusal Nowhere = refused_nowhere refusal
+refused refusal (Object n) = refused_at refusal (codes "at object " ++ decimal n) (object_quiet n)
+refused refusal (Octet n) = refused_at refusal (codes "at octet " ++ decimal n) (octet_quiet n)
+refused refusal (After n) = refused_at refusal (codes "after " ++ (decimal n ++ codes " octets")) (after_quiet n)
 
-quiet_report : (refusal : Refusal) (place : Place) → after_last (codes "refused ") (report_text (record { 0 = refusal; 1 = place })) ≡ None
-quiet_report refusal place =
-    subst (λ text. after_last (codes "refused ") text ≡ None)
-    (append_assoc (decimal (number_of refusal)) (codes " " ++ name_of refusal) (place_text place))
-    (quiet_before (codes "refused ") (label (subject.Refusal refusal)) (place_text place) (quiet_label refusal place) (quiet_place place))
+abbrev subject_of : List ℕ → Option Subject
+subject_of word = option_map (λ entry. entry.subject) (entry_named word)
 
--- what follows a mark, if it has none itself
-after_refused : (text : List ℕ) → after_last (codes "refused ") text ≡ None → after_last (codes "refused ") (codes "refused " ++ text) ≡ Some text
-after_refused text none =
-    ap (λ r. option_or r (after_front (codes "refused ") (codes "refused " ++ text)))
-    (quiet_before (codes "refused ") (codes "efused ") text refl none)
-
-reported : (path : List ℕ) (report : Report) → report_in (path ++ (codes ": refused " ++ report_text report)) ≡ report_text report
-reported path report =
-    let text = report_text report in
-    let line = path ++ (codes ": refused " ++ text) in
-    let found : after_last (codes "refused ") line ≡ Some text =
-    mark_after (codes "refused ") path (codes ": refused " ++ text) text
-    (mark_after (codes "refused ") (codes ": ") (codes "refused " ++ text) text (after_refused text (quiet_report report.0 report.1))) in
-    ap (λ r. unwrap_or (option_or r (after_last (codes "broken ") line)) line) found
-
-named : (refusal : Refusal) (rest : List ℕ)
-    → option_map (λ entry. entry.subject) (entry_named (before_first (λ b. b == 32) (decimal (number_of refusal) ++ (32 ∷ rest)))) ≡ Some (subject.Refusal refusal)
+refusal_named : (refusal : Refusal) → subject_of (decimal (number_of refusal)) ≡ Some (subject.Refusal refusal)
 unfolding digits refusal_entries rule_entries
-named TooShort rest = refl
-named _ rest = refl
+refusal_named TooShort = refl
+refusal_named _ = refl
 
 pub explains_reports : ExplainsReports
 explains_reports path report =
-    ap (λ text. option_map (λ entry. entry.subject) (entry_named (before_first (λ b. b == 32) text))) (reported path report)
-    ∙ named report.0 (name_of report.0 ++ place_text report.1)
+    let line = codes "refused " ++ report_text report in
+    let number = decimal (number_of report.0) in
+    let found = refused report.0 report.1 in (
+      ap subject_of (at_path path line number found) ∙ refusal_named report.0,
+      ap subject_of (alone line number found) ∙ refusal_named report.0,
+    )
 
 -- a broken rule, at any object
-no_refusal : (rule : ℕ) (object : List ℕ) → rule < 8 → is_quiet (codes "refused ") (codes "broken C" ++ (decimal rule ++ codes " at object ")) object ≡ true
+broken_at : (rule : ℕ) (rest : List ℕ) → rule < 8 → reported (words rest) ≡ None
+    → reported (words (codes "broken C" ++ (decimal rule ++ (32 ∷ rest)))) ≡ Some (codes "C" ++ decimal rule)
 unfolding digits
-no_refusal (suc (suc (suc (suc (suc (suc (suc (suc rule)))))))) object below = absurd (omega (arith, below))
-no_refusal _ object below = refl
+broken_at (suc (suc (suc (suc (suc (suc (suc (suc rule)))))))) rest below none = absurd (omega (arith, below))
+broken_at _ rest below none = rw none refl
 
-no_other : (rule : ℕ) (object : List ℕ) → rule < 8 → is_quiet (codes "broken ") (codes "roken C" ++ (decimal rule ++ codes " at object ")) object ≡ true
-unfolding digits
-no_other (suc (suc (suc (suc (suc (suc (suc (suc rule)))))))) object below = absurd (omega (arith, below))
-no_other _ object below = refl
-
-rule_named : (rule : ℕ) (object : List ℕ) → rule < 8
-    → option_map (λ entry. entry.subject) (entry_named (before_first (λ b. b == 32) (codes "C" ++ (decimal rule ++ (codes " at object " ++ object))))) ≡ Some (subject.Rule rule)
+rule_named : (rule : ℕ) → rule < 8 → subject_of (codes "C" ++ decimal rule) ≡ Some (subject.Rule rule)
 unfolding digits refusal_entries rule_entries
-rule_named (suc (suc (suc (suc (suc (suc (suc (suc rule)))))))) object below = absurd (omega (arith, below))
-rule_named _ object below = refl
-
-verdict_in : (rule object : ℕ) → rule < 8
-    → report_in (codes "broken C" ++ (decimal rule ++ (codes " at object " ++ decimal object))) ≡ codes "C" ++ (decimal rule ++ (codes " at object " ++ decimal object))
-verdict_in rule object below =
-    let place = decimal object in
-    let rest = decimal rule ++ (codes " at object " ++ place) in
-    let line = codes "broken C" ++ rest in
-    let joined : (decimal rule ++ codes " at object ") ++ place ≡ rest = append_assoc (decimal rule) (codes " at object ") place in
-    let refused : after_last (codes "refused ") line ≡ None =
-    subst (λ text. after_last (codes "refused ") (codes "broken C" ++ text) ≡ None) joined
-    (quiet_before (codes "refused ") (codes "broken C" ++ (decimal rule ++ codes " at object ")) place (no_refusal rule place below)
-    (number_quiet 114 (codes "efused ") no_digit_r object)) in
-    let later : after_last (codes "broken ") (codes "roken C" ++ rest) ≡ None =
-    subst (λ text. after_last (codes "broken ") (codes "roken C" ++ text) ≡ None) joined
-    (quiet_before (codes "broken ") (codes "roken C" ++ (decimal rule ++ codes " at object ")) place (no_other rule place below)
-    (number_quiet 98 (codes "roken ") no_digit_b object)) in
-    let broken : after_last (codes "broken ") line ≡ Some (codes "C" ++ rest) =
-    ap (λ r. option_or r (after_front (codes "broken ") line)) later in
-    ap (λ r. unwrap_or (option_or r (after_last (codes "broken ") line)) line) refused
-    ∙ ap (λ r. unwrap_or r line) broken
+rule_named (suc (suc (suc (suc (suc (suc (suc (suc rule)))))))) below = absurd (omega (arith, below))
+rule_named _ below = refl
 
 pub explains_verdicts : ExplainsVerdicts
-explains_verdicts rule object below =
-    ap (λ text. option_map (λ entry. entry.subject) (entry_named (before_first (λ b. b == 32) text))) (verdict_in rule object below)
-    ∙ rule_named rule (decimal object) below
+explains_verdicts path rule object below =
+    let line = codes "broken C" ++ (decimal rule ++ (codes " at object " ++ decimal object)) in
+    let name = codes "C" ++ decimal rule in
+    let found = broken_at rule (codes "at object " ++ decimal object) below (object_quiet object) in (
+      ap subject_of (at_path path line name found) ∙ rule_named rule below,
+      ap subject_of (alone line name found) ∙ rule_named rule below,
+    )

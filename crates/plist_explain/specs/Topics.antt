@@ -1,9 +1,9 @@
 -- What can be explained, the words that name it, and what is printed.
-use Rattle.std.specs.Prelude.{◌≡◌, ◌<◌, ◌==◌, ℕ, Bool, List, [], ◌∷◌, Option, Some, None, ◌++◌}
-use Rattle.std.specs.Prelude.{◌||◌, codes, drop, find, flat_map, if◌then◌else◌, length, map, nat_eq}
-use Rattle.std.specs.Prelude.{option_map, unwrap_or}
+use Rattle.std.specs.Prelude.{◌≡◌, ◌<◌, ℕ, Bool, List, [], ◌∷◌, Option, Some, None, ◌++◌}
+use Rattle.std.specs.Prelude.{◌||◌, codes, find, flat_map, if◌then◌else◌, map, option_map}
+use Rattle.std.specs.Prelude.{unwrap_or}
 use Rattle.std.specs.Borrow.{Bor}
-use Rattle.std.specs.List.{before_first, starts_with}
+use Rattle.std.specs.Char.{is_ascii_whitespace}
 use Rattle.std.specs.Option.{option_or}
 use Rattle.std.specs.Str.{bytes_eq, str_eq_ignore_ascii_case, str_to_ascii_lowercase}
 use Rattle.std.specs.Fmt.{decimal}
@@ -48,26 +48,39 @@ is_named (subject.Rule rule) word =
 abbrev pub entry_named : List ℕ → Option Entry
 entry_named word = find (λ entry. is_named entry.subject word) entries
 
--- what follows the mark that the text begins with
-abbrev pub after_front : List ℕ → List ℕ → Option (List ℕ)
-after_front mark text =
-    if starts_with nat_eq text mark then Some (drop (length mark) text) else None
+-- a word in front of others, unless it is empty
+abbrev pub with_word : List ℕ → List (List ℕ) → List (List ℕ)
+with_word [] words = words
+with_word (c ∷ word) words = (c ∷ word) ∷ words
 
--- what follows the last mark in the text
-abbrev pub after_last : List ℕ → List ℕ → Option (List ℕ)
-after_last mark [] = after_front mark []
-after_last mark (c ∷ text) = option_or (after_last mark text) (after_front mark (c ∷ text))
+-- the word that a text begins with, which is empty in front of white space, and the words after it
+abbrev pub cut : List ℕ → List ℕ × List (List ℕ)
+cut [] = ([], [])
+cut (c ∷ text) =
+    if is_ascii_whitespace c then ([], with_word (cut text).0 (cut text).1)
+    else (c ∷ (cut text).0, (cut text).1)
 
--- what a printed line reports: what follows `refused ` or else `broken `; otherwise the whole text
-abbrev pub report_in : List ℕ → List ℕ
-report_in text =
-    let refused = after_last (codes "refused ") text in
-    let broken = after_last (codes "broken ") text in
-    unwrap_or (option_or refused broken) text
+-- the words of a text, which ASCII white space separates
+abbrev pub words : List ℕ → List (List ℕ)
+words text = with_word (cut text).0 (cut text).1
 
--- the first word of the report
+abbrev pub first_of : List (List ℕ) → Option (List ℕ)
+first_of [] = None
+first_of (word ∷ _) = Some word
+
+-- the word before what a printed line reports
+abbrev pub is_mark : List ℕ → Bool
+is_mark word = bytes_eq word (codes "refused") || bytes_eq word (codes "broken")
+
+-- the word after the last mark that has one
+abbrev pub reported : List (List ℕ) → Option (List ℕ)
+reported [] = None
+reported (word ∷ words) =
+    option_or (reported words) (if is_mark word then first_of words else None)
+
+-- the word that names the subject: what a printed line reports, or else the first word
 abbrev pub word_in : List ℕ → List ℕ
-word_in text = before_first (λ b. b == 32) (report_in text)
+word_in text = unwrap_or (option_or (reported (words text)) (first_of (words text))) []
 
 -- `14 DuplicateKey`, or `C5`
 abbrev pub label : Subject → List ℕ
@@ -111,13 +124,15 @@ abbrev pub ExplainsRules : Type 0
 ExplainsRules = (rule : ℕ) → rule < 8 → Names (codes "C" ++ decimal rule) (subject.Rule rule)
     × Names (codes "c" ++ decimal rule) (subject.Rule rule)
 
--- the line that is printed for a refusal, whatever the path, names that refusal
+-- the line that is printed for a refusal, with any path or without one, names that refusal
 abbrev pub ExplainsReports : Type 0
 ExplainsReports = (path : List ℕ) (report : Report)
     → Names (path ++ (codes ": refused " ++ report_text report)) (subject.Refusal report.0)
+    × Names (codes "refused " ++ report_text report) (subject.Refusal report.0)
 
--- a broken rule, as `check` prints it, names that rule
+-- the line that `check` prints for a broken rule, with any path or without one, names that rule
 abbrev pub ExplainsVerdicts : Type 0
-ExplainsVerdicts = (rule object : ℕ) → rule < 8
-    → Names (codes "broken C" ++ (decimal rule ++ (codes " at object " ++ decimal object)))
-    (subject.Rule rule)
+ExplainsVerdicts = (path : List ℕ) (rule object : ℕ) → rule < 8
+    → let place = decimal rule ++ (codes " at object " ++ decimal object) in
+    Names (path ++ (codes ": broken C" ++ place)) (subject.Rule rule)
+    × Names (codes "broken C" ++ place) (subject.Rule rule)

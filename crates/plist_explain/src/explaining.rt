@@ -13,7 +13,8 @@ use std::alloc::{AllocError, Global};
 
 /// Returns the explanation of the refusal or rule that the text names by its first word, such as
 /// `14`, `duplicatekey` or `C5`. The text may also be a printed line that reports one, such as
-/// `Info.plist: refused 14 DuplicateKey at object 0`. Returns `None` if it names none.
+/// `Info.plist: refused 14 DuplicateKey at object 0` or `broken C5 at object 0`. Returns `None` if
+/// it names none.
 ///
 /// # Errors
 ///

@@ -1,35 +1,27 @@
 //! The word of a text that names what is to be explained.
-ghost use Rattle.std.specs.Prelude.{◌≡◌, option_map};
-ghost use Rattle.plist_explain.specs.Topics.{after_last, report_in, word_in};
+ghost use Rattle.std.specs.Prelude.{◌≡◌};
+ghost use Rattle.plist_explain.specs.Topics.{is_mark, word_in};
 
-/// Returns the word that names the topic: the first word of the text, or the word after `refused`
-/// or `broken` if the text is a printed line, such as `Info.plist: refused 14 DuplicateKey at
-/// object 0`.
+/// Returns the word that names the topic: the first word of the text, or the word after the last
+/// `refused` or `broken` if the text is a printed line, such as `broken C5 at object 0`. White
+/// space around the words is skipped.
 pub(crate) fn word_in(text: &str) -> &str
     ensures { result.now ≡ word_in text.now }
 {
-    let report = report_in(text);
-    match report.split_once(' ') {
-        Some((word, _)) => word,
-        None => report,
+    let mut named = "";
+    let mut is_next = true;
+    for word in text.split_ascii_whitespace() {
+        if is_next {
+            named = word;
+        }
+        is_next = is_mark(word);
     }
+    named
 }
 
-/// Returns what a printed line reports, and any other text whole.
-fn report_in(text: &str) -> &str
-    ensures { result.now ≡ report_in text.now }
+/// Returns whether the next word says what was found.
+fn is_mark(word: &str) -> bool
+    ensures { result ≡ is_mark word.now }
 {
-    after_last("refused ", text)
-        .or(after_last("broken ", text))
-        .unwrap_or(text)
-}
-
-/// Returns what follows the last mark in the text.
-fn after_last<'a>(mark: &str, text: &'a str) -> Option<&'a str>
-    ensures { option_map (λ rest. rest.now) result ≡ after_last mark.now text.now }
-{
-    match text.rsplit_once(mark) {
-        Some((_, rest)) => Some(rest),
-        None => None,
-    }
+    word == "refused" || word == "broken"
 }
