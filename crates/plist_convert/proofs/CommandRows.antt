@@ -4,7 +4,7 @@ use Rattle.std.specs.Borrow.{Bor}
 use Rattle.clap.specs.Words.{Kinds, Text, fault_of, subcommand_of}
 use Rattle.clap.proofs.OnLiterals.{clap_on_literals}
 use Rattle.clap.specs.declared.error.ErrorKind.TheVariants as kind
-use Rattle.plist_convert.specs.Asked.{Asked, Checks, Compares, Converts, Explains, Lints, asked_at}
+use Rattle.plist_convert.specs.Asked.{Asked, Checks, Compares, Converts, Explains, Lints, asked_at, asked_unparsed}
 use Rattle.plist_convert.specs.CommandLine.{NamesForms, program}
 use Rattle.plist_convert.specs.Reading.{IsParse}
 use Rattle.plist_forms.specs.declared.forms.Form.TheVariants.{Binary1}
@@ -109,3 +109,13 @@ a-refusal-explained = asks _ _ (λ p q r. refl) (λ p q r. refl)
 all-explained : AsksFor (codes "plistconv" ∷ (codes "explain" ∷ [])) (Explains None)
 unfolding clap_on_literals
 all-explained = asks _ _ (λ p q r. refl) (λ p q r. refl)
+
+-- lines that begin with a dash
+a-line-explained : asked_unparsed (codes "plistconv" ∷ (codes "explain" ∷ (codes "-: refused 1 TooShort" ∷ []))) ≡ Some (Explains (Some (codes "-: refused 1 TooShort")))
+a-line-explained = refl
+
+no-line : asked_unparsed (codes "plistconv" ∷ (codes "explain" ∷ (codes "--help" ∷ []))) ≡ None
+no-line = refl
+
+another-command : asked_unparsed (codes "plistconv" ∷ (codes "lint" ∷ (codes "-: refused 1 TooShort" ∷ []))) ≡ None
+another-command = refl

@@ -7,6 +7,7 @@ pub mod Judged
 pub mod Prints
 pub mod Runs
 pub mod Transfers
+pub mod Unparsed
 pub mod CommandLine
 pub mod WithWords
 pub mod Parsed

@@ -1,9 +1,10 @@
 -- Derives the run of a command from the contracts of its parts.
-use Rattle.std.proofs.Common.{ap₂, inl, inr, refl, subst, Err, List, Ok, Result, ℕ, ◌≡◌, ◌⊎◌}
-use Rattle.std.specs.Prelude.{◌≤◌, IfOk, MatchResult, length}
+use Rattle.std.proofs.Common.{ap₂, inl, inr, refl, subst, Err, List, None, Ok, Result, ℕ, ◌≡◌, ◌⊎◌}
+use Rattle.std.specs.Prelude.{IfOk, MatchResult}
 use Rattle.std.specs.declared.alloc.AllocError.{AllocError}
 use Rattle.clap.specs.Words.{Text, kind_of}
 use Rattle.clap.specs.declared.Error.{Error}
+use Rattle.plist_convert.specs.Asked.{asked_unparsed}
 use Rattle.plist_convert.specs.Files.{FileName, FileHolds, SameFiles}
 use Rattle.plist_convert.specs.Reading.{IsReading}
 use Rattle.plist_convert.specs.declared.answers.Answer.{Answer}
@@ -66,12 +67,12 @@ answer_ends said before after status (Ok a) says prints =
 answer_ends said before after status (Err e) says prints = inr prints
 
 -- the arguments are refused
-pub refused_run : (words : List Text) (input : Input) (before after : State) (error : Error) (status : ℕ) → 2 ≤ length words
+pub refused_run : (words : List Text) (input : Input) (before after : State) (error : Error) (status : ℕ) → asked_unparsed words ≡ None
     → IsReading words (Err error) → after.files ≡ before.files → after.disk_failures ≡ before.disk_failures
     → Explains (kind_of error) before.printed after.printed before.print_failures after.print_failures status
     → IsRefusedRun words input input before after status
-refused_run words input before after error status many r files failures ends = record {
-  many = many;
+refused_run words input before after error status parsed r files failures ends = record {
+  parsed = parsed;
   untouched = refl;
   explained = record {
     kinds = r.kinds;

@@ -1,6 +1,7 @@
 -- The request of a command line, by the command and its arguments.
-use Rattle.std.specs.Prelude.{List, Option, Some, None, codes, map, option_and_then, option_map}
-use Rattle.std.specs.Prelude.{if◌then◌else◌}
+use Rattle.std.specs.Prelude.{◌∷◌, ◌&&◌, [], Bool, List, Option, Some, None, codes, map, nat_eq}
+use Rattle.std.specs.Prelude.{if◌then◌else◌, option_and_then, option_map}
+use Rattle.std.specs.List.{list_any, starts_with}
 use Rattle.std.specs.Str.{bytes_eq}
 use Rattle.clap.specs.Words.{Row, Text, all_of, first_of}
 use Rattle.plist_forms.specs.declared.forms.Form.{Form}
@@ -76,3 +77,19 @@ asked_in word rows =
 
 abbrev pub asked_at : Option (Text × List Row) → Option Asked
 asked_at = option_and_then (λ entered. asked_in entered.0 entered.1)
+
+-- the word begins with a dash and has a blank, so it is no option: `-: refused 1 TooShort`
+abbrev pub is_dash_line : Text → Bool
+is_dash_line word = starts_with nat_eq word (codes "-") && list_any (λ b. nat_eq b 32) word
+
+-- `explain` of such a line
+abbrev pub line_asked : (command line : Text) → Option Asked
+line_asked command line =
+    if bytes_eq command (codes "explain") && is_dash_line line then Some (Explains (Some line))
+    else None
+
+-- the request of arguments that are not parsed: the filter, and `explain` of a line
+abbrev pub asked_unparsed : List Text → Option Asked
+asked_unparsed (_ ∷ (command ∷ (line ∷ _))) = line_asked command line
+asked_unparsed (_ ∷ (_ ∷ [])) = None
+asked_unparsed _ = Some Filters

@@ -1,8 +1,8 @@
 -- The complete program: the arguments, the state before and after, and the exit status.
-use Rattle.std.specs.Prelude.{◌≡◌, ◌⊎◌, ℕ, ◌<◌, ◌≤◌, List, [], Option, Some, None, length}
+use Rattle.std.specs.Prelude.{◌≡◌, ◌⊎◌, ℕ, IfSome, List, [], Option, Some, None}
 use Rattle.clap.specs.Words.{Kinds, Text}
 use Rattle.plist_convert.specs.Asked.{Asked, Filters, Converts, Compares, Lints, Checks, Prints}
-use Rattle.plist_convert.specs.Asked.{Explains}
+use Rattle.plist_convert.specs.Asked.{Explains, asked_unparsed}
 use Rattle.plist_convert.specs.Reading.{IsParse}
 use Rattle.plist_convert.specs.Ending.{HaveFailed}
 use Rattle.plist_convert.specs.Explaining.{IsExplained}
@@ -39,11 +39,10 @@ pub record AreTaken (words : List Text) (it : Asked) : Type 0 where
   pub taken : kinds ≡ []
   pub is : asked ≡ Some it
 
--- the request of the arguments: the first is the program's name, and without another it is the
--- filter
+-- the request of the arguments, of which the first is the program's name
 pub record AskFor (words : List Text) (it : Asked) : Type 0 where
-  pub few : length words < 2 → it ≡ Filters
-  pub many : 2 ≤ length words → AreTaken words it
+  pub unparsed : IfSome (asked_unparsed words) (λ asked. it ≡ asked)
+  pub parsed : asked_unparsed words ≡ None → AreTaken words it
 
 -- the request of the arguments is executed
 pub record IsObeyed (words : List Text) (input rest : Input) (before after : State)
@@ -55,7 +54,7 @@ pub record IsObeyed (words : List Text) (input rest : Input) (before after : Sta
 -- the arguments are refused, or ask for help
 pub record IsRefusedRun (words : List Text) (input rest : Input) (before after : State)
     (status : ℕ) : Type 0 where
-  pub many : 2 ≤ length words
+  pub parsed : asked_unparsed words ≡ None
   pub untouched : rest ≡ input
   pub explained : IsExplained words before after status
 

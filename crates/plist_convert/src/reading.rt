@@ -1,8 +1,9 @@
 //! Parses the command line.
-ghost use Rattle.std.specs.Prelude.{◌≡◌, ◌<◌, ◌≤◌, IfOk, length, map, option_map, Ok};
+ghost use Rattle.std.specs.Prelude.{◌≡◌, IfOk, IfSome, IsOkAnd, None, map, option_map};
 ghost use Rattle.clap.specs.Words.{all_of, app_of, first_of, found_of, rows_of};
 ghost use Rattle.clap.specs.Words.{subcommand_rows_of};
 ghost use Rattle.plist_convert.specs.Asked.{asked_by, asked_at, convert_at, explain_at, form_of};
+ghost use Rattle.plist_convert.specs.Asked.{asked_unparsed, is_dash_line, line_asked};
 ghost use Rattle.plist_convert.specs.Asked.{print_at, same_at};
 ghost use Rattle.plist_convert.specs.CommandLine.{IsProgram};
 ghost use Rattle.plist_convert.specs.Reading.{IsReading};
@@ -15,21 +16,55 @@ use plist_forms::Form;
 use std::alloc::{AllocError, Global};
 
 /// Returns the request of these arguments, of which the first is the program's name. Without
-/// another argument, it is the filter.
+/// another argument, it is the filter. `explain` takes a line that begins with a dash, such as
+/// `-: refused 1 TooShort`, as it takes any other.
 ///
 /// # Errors
 ///
 /// Arguments that are not a command, or that ask for help, are an error with the text to print. If
 /// out of memory, the kind of the error is `OutOfMemory`.
 pub fn read_words<'a>(alloc: Global, words: &'a [&'a str]) -> Result<Request<'a>, Error>
-    ensures filter { length words.now < 2 → result ≡ Ok Request.Filter }
-    ensures reading { 2 ≤ length words.now → IsReading (map (λ word. word.now) words.now) result }
+    ensures unparsed { IfSome (asked_unparsed (map (λ word. word.now) words.now))
+        (λ asked. IsOkAnd result (λ request. asked_by request ≡ asked)) }
+    ensures parsed { asked_unparsed (map (λ word. word.now) words.now) ≡ None
+        → IsReading (map (λ word. word.now) words.now) result }
 {
-    if words.len() < 2 {
-        return Ok(Request::Filter);
+    if let Some(request) = unparsed_request(words) {
+        return Ok(request);
     }
     let mut command = program(alloc)?;
     read_by(alloc, &mut command, words)
+}
+
+/// Returns the request of arguments that are not parsed.
+fn unparsed_request<'a>(words: &[&'a str]) -> Option<Request<'a>>
+    ensures { option_map asked_by result ≡ asked_unparsed (map (λ word. word.now) words.now) }
+{
+    if words.len() < 2 {
+        return Some(Request::Filter);
+    }
+    if words.len() < 3 {
+        return None;
+    }
+    line_request(words[1], words[2])
+}
+
+fn line_request<'a>(command: &str, line: &'a str) -> Option<Request<'a>>
+    ensures { option_map asked_by result ≡ line_asked command.now line.now }
+{
+    if command == "explain" && is_dash_line(line) {
+        Some(Request::Explain { what: Some(line) })
+    } else {
+        None
+    }
+}
+
+/// Returns whether the word begins with a dash but is no option, since it has a blank.
+fn is_dash_line(word: &str) -> bool
+    ensures { result ≡ is_dash_line word.now }
+{
+    let octets = word.as_bytes();
+    octets.starts_with(b"-") && octets.contains(&b' ')
 }
 
 /// Parses the arguments with the program's command line.
