@@ -20,6 +20,7 @@ _plistconv() {
             mapfile -t COMPREPLY < <(compgen -f -- "$word")
             COMPREPLY=("${COMPREPLY[@]/#-/./-}") # so that no name is taken for an option
             [[ $word != -* ]] || offered=--help
+            [[ $word-${COMP_WORDS[1]} != -*-check ]] || offered+=' --with-filename'
             ;;
     esac
     mapfile -t -O ${#COMPREPLY[@]} COMPREPLY < <(compgen -W "$offered" -- "$word")

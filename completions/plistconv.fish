@@ -18,6 +18,7 @@ complete -c plistconv -n __fish_use_subcommand -f -s h -l help -d 'Print help'
 complete -c plistconv -n __fish_use_subcommand -f -s V -l version -d 'Print name and version'
 complete -c plistconv -n 'string match -qr "^(help|explain)\$" -- (commandline -opc)[2]' -f
 complete -c plistconv -n 'not __fish_use_subcommand' -s h -l help -d 'Print help'
+complete -c plistconv -n 'string match -q check -- (commandline -opc)[2]' -l with-filename -d 'Print the path of a single file too'
 complete -c plistconv -f -n '__plistconv_argument 1 convert' -a 'binary1 openstep'
 complete -c plistconv -f -n '__plistconv_argument 1 help' -a 'convert same lint check print explain'
 complete -c plistconv -f -n '__plistconv_argument 1 explain' -a '

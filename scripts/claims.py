@@ -32,7 +32,8 @@ NAMED = re.compile(r"((?:\w+::)*)(\{[\w, ]+\}|\w+)(?:: (\w+(?:, \w+)*)| as (\w+)
 # (fields of the library's types, and of its views of references; then of clap's)
 FIELDS = set("now old new entry exit items keys entries ghost_name".split())
 FIELDS |= set(
-    "top has_version subcommand_required required parser range start_inclusive end_inclusive".split()
+    "top has_version subcommand_required required parser range start_inclusive end_inclusive"
+    " long action".split()
 )
 TOTAL = re.compile(r"([\d,]+) definitions, ([\d,]+) lines; ([\d,]+) of them, ([\d,]+) lines")
 

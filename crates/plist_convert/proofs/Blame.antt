@@ -1,6 +1,6 @@
 -- The exit status is 4 only if a device failed.
 use Rattle.std.proofs.Common.{arith, inl, inr, sym, Err, List, [], ◌∷◌, None, Ok, Option, Result, Some, ℕ, ◌∙◌, ◌≡◌, ◌⊎◌}
-use Rattle.std.specs.Prelude.{◌≢◌, ◌<◌, ◌≤◌, Bool, true, false, length, max, nat_lt}
+use Rattle.std.specs.Prelude.{◌≢◌, ◌<◌, ◌≤◌, Bool, true, false, max}
 use Rattle.std.proofs.lemmas.Bool.{cases_lt}
 use Rattle.clap.specs.Words.{Text}
 use Rattle.clap.specs.declared.error.ErrorKind.{ErrorKind}
@@ -36,7 +36,7 @@ use Rattle.plist_convert.specs.Answer.{IsCheckAnswerOf, IsLintAnswer, IsOutputRe
 use Rattle.plist_convert.specs.Ending.{Ends, HaveFailed, Prints, no_memory}
 use Rattle.plist_convert.specs.Explaining.{Explains, said_of_kind, status_of_kind}
 use Rattle.plist_convert.specs.Program.{DeviceFailed, IsAskedRun, IsRun}
-use Rattle.plist_convert.specs.Runs.{EndsSending, IsAnswered, IsCheckRun, IsChecked, IsConvertRun, IsExplainRun, IsFileRun, IsFiltered, IsFilterRun, IsInputFault, IsLinted, IsLintRun, IsPrintRun, IsRunOfEach, IsSameRun, IsUnread, IsWanting, refusal_between, standard}
+use Rattle.plist_convert.specs.Runs.{EndsSending, IsAnswered, IsCheckRun, IsChecked, IsConvertRun, IsExplainRun, IsFileRun, IsFiltered, IsFilterRun, IsInputFault, IsLinted, IsLintRun, IsPrintRun, IsRunOfEach, IsSameRun, IsUnread, IsWanting, are_named, refusal_between, standard}
 use Rattle.plist_convert.specs.State.{Ending, Input, State}
 use Rattle.plist_convert.specs.Verdicts.{verdict_status_for}
 use Rattle.plist_convert.proofs.Each.{Single}
@@ -284,11 +284,12 @@ linted_count : AllCount IsLinted
 unfolding IsLinted
 linted_count path before after status run = file_counts (IsLintAnswer path) path before after status run
 
-check_blamed : (paths : List FileName) (before after : State) (status : ℕ) → IsCheckRun paths before after status → status ≡ 4 → Failed before after
+check_blamed : (named : Bool) (paths : List FileName) (before after : State) (status : ℕ) → IsCheckRun named paths before after status → status ≡ 4
+    → Failed before after
 unfolding IsCheckRun
-check_blamed paths before after status run four =
-    let several = nat_lt 1 (length paths) in
-    each_blamed (IsChecked several) paths before after status (checked_count several) (checked_blamed several) run four
+check_blamed named paths before after status run four =
+    let each = are_named named paths in
+    each_blamed (IsChecked each) paths before after status (checked_count each) (checked_blamed each) run four
 
 lint_blamed : (paths : List FileName) (before after : State) (status : ℕ) → IsLintRun paths before after status → status ≡ 4 → Failed before after
 unfolding IsLintRun
@@ -389,7 +390,7 @@ asked_blamed Filters input rest before after status run four = filter_blamed inp
 asked_blamed (Converts form from to) input rest before after status run four = inr (convert_blamed form from to before after status run.1 four)
 asked_blamed (Compares first second) input rest before after status run four = inr (same_blamed first second before after status run.1 four)
 asked_blamed (Lints paths) input rest before after status run four = inr (lint_blamed paths before after status run.1 four)
-asked_blamed (Checks paths) input rest before after status run four = inr (check_blamed paths before after status run.1 four)
+asked_blamed (Checks named paths) input rest before after status run four = inr (check_blamed named paths before after status run.1 four)
 asked_blamed (asked.Prints path) input rest before after status run four = inr (print_blamed path before after status run.1 four)
 asked_blamed (asked.Explains what) input rest before after status run four = inr (explain_blamed what before after status run.1.1 four)
 

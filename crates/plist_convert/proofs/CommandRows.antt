@@ -1,5 +1,5 @@
 -- Examples of command lines: the request of some arguments, and the kinds of error of others.
-use Rattle.std.proofs.Common.{ℕ, ap, codes, map, refl, List, Option, None, Some, [], ◌∷◌, ◌∙◌, ◌≡◌}
+use Rattle.std.proofs.Common.{ℕ, ap, codes, false, map, refl, true, List, Option, None, Some, [], ◌∷◌, ◌∙◌, ◌≡◌}
 use Rattle.std.specs.Borrow.{Bor}
 use Rattle.clap.specs.Words.{Kinds, Text, fault_of, subcommand_of}
 use Rattle.clap.proofs.OnLiterals.{clap_on_literals}
@@ -82,7 +82,7 @@ compares : AsksFor (codes "plistconv" ∷ (codes "same" ∷ (codes "a" ∷ (code
 unfolding clap_on_literals
 compares = asks _ _ (λ p q r. refl) (λ p q r. refl)
 
-a-path-behind-two-lines : AsksFor (codes "plistconv" ∷ (codes "check" ∷ (codes "--" ∷ (codes "-x" ∷ [])))) (Checks (codes "-x" ∷ []))
+a-path-behind-two-lines : AsksFor (codes "plistconv" ∷ (codes "check" ∷ (codes "--" ∷ (codes "-x" ∷ [])))) (Checks false (codes "-x" ∷ []))
 unfolding clap_on_literals
 a-path-behind-two-lines = asks _ _ (λ p q r. refl) (λ p q r. refl)
 
@@ -90,9 +90,17 @@ paths-in-order : AsksFor (codes "plistconv" ∷ (codes "lint" ∷ (codes "b" ∷
 unfolding clap_on_literals
 paths-in-order = asks _ _ (λ p q r. refl) (λ p q r. refl)
 
-paths-before-and-behind-two-lines : AsksFor (codes "plistconv" ∷ (codes "check" ∷ (codes "a" ∷ (codes "--" ∷ (codes "-b" ∷ (codes "--" ∷ [])))))) (Checks (codes "a" ∷ (codes "-b" ∷ (codes "--" ∷ []))))
+paths-before-and-behind-two-lines : AsksFor (codes "plistconv" ∷ (codes "check" ∷ (codes "a" ∷ (codes "--" ∷ (codes "-b" ∷ (codes "--" ∷ [])))))) (Checks false (codes "a" ∷ (codes "-b" ∷ (codes "--" ∷ []))))
 unfolding clap_on_literals
 paths-before-and-behind-two-lines = asks _ _ (λ p q r. refl) (λ p q r. refl)
+
+with-filename : AsksFor (codes "plistconv" ∷ (codes "check" ∷ (codes "--with-filename" ∷ (codes "a" ∷ [])))) (Checks true (codes "a" ∷ []))
+unfolding clap_on_literals
+with-filename = asks _ _ (λ p q r. refl) (λ p q r. refl)
+
+with-filename-last : AsksFor (codes "plistconv" ∷ (codes "check" ∷ (codes "a" ∷ (codes "b" ∷ (codes "--with-filename" ∷ []))))) (Checks true (codes "a" ∷ (codes "b" ∷ [])))
+unfolding clap_on_literals
+with-filename-last = asks _ _ (λ p q r. refl) (λ p q r. refl)
 
 no-path : FailsAs (codes "plistconv" ∷ (codes "check" ∷ [])) (kind.MissingRequiredArgument ∷ [])
 unfolding clap_on_literals

@@ -99,6 +99,6 @@ unfolding IsLintRun IsLinted
 lint_of_one path before after status = each_of_one IsLinted path before after status
 
 pub check_of_one : (path : FileName) (before after : State) (status : ℕ)
-    → IsCheckRun (path ∷ []) before after status ↔ IsFileRun (IsCheckAnswer path) path before after status
+    → IsCheckRun false (path ∷ []) before after status ↔ IsFileRun (IsCheckAnswer path) path before after status
 unfolding IsCheckRun IsChecked
 check_of_one path before after status = each_of_one (IsChecked false) path before after status

@@ -40,9 +40,9 @@ said line status = record { text = line ++ codes "\n"; status = status }
 abbrev pub refusal : List ℕ → Fault → Said
 refusal path fault = said (line_of path fault) (status_for (code_of fault))
 
-abbrev pub verdict_said : (several : Bool) → List ℕ → Verdict → Said
-verdict_said several path verdict =
-    said (verdict_line_of several path verdict) (verdict_status_for verdict)
+abbrev pub verdict_said : (named : Bool) → List ℕ → Verdict → Said
+verdict_said named path verdict =
+    said (verdict_line_of named path verdict) (verdict_status_for verdict)
 
 abbrev pub accepted_said : List ℕ → Said
 accepted_said path = said (path ++ codes ": OK") 0
@@ -75,12 +75,12 @@ abbrev pub Says : Said → Said → Type 0
 Says s t = (s.text ≡ t.text) × (s.status ≡ t.status)
 
 -- the line of the verdict that is true of the bytes
-pub record IsJudged (several : Bool) (path octets : List ℕ) (s : Said) : Type 0 where
+pub record IsJudged (named : Bool) (path octets : List ℕ) (s : Said) : Type 0 where
   pub verdict : Verdict
   pub laid : IsLaid octets
   pub stands : IsVerdict octets verdict
   pub canonical : (verdict ≡ Canonical) ↔ IsCanonical octets
-  pub says : Says s (verdict_said several path verdict)
+  pub says : Says s (verdict_said named path verdict)
 
 -- the line of a fault of the layout, or out of memory
 pub record IsUnchecked (octets path : List ℕ) (s : Said) : Type 0 where
@@ -88,11 +88,11 @@ pub record IsUnchecked (octets path : List ℕ) (s : Said) : Type 0 where
   pub stands : IsCheckFault octets fault
   pub says : Says s (refusal path (check_fault_for fault))
 
--- the result of `check` for a file, alone or as one of several
-abbrev pub IsCheckAnswerOf : (several : Bool) → List ℕ → List ℕ → Said → Type 0
-IsCheckAnswerOf several path octets s = IsJudged several path octets s ⊎ IsUnchecked octets path s
+-- the result of `check` for a file, whose path the line of a verdict has or not
+abbrev pub IsCheckAnswerOf : (named : Bool) → List ℕ → List ℕ → Said → Type 0
+IsCheckAnswerOf named path octets s = IsJudged named path octets s ⊎ IsUnchecked octets path s
 
--- the result of `check` for one file
+-- the result of `check` for one file, unless its path is asked for
 abbrev pub IsCheckAnswer : List ℕ → List ℕ → Said → Type 0
 IsCheckAnswer = IsCheckAnswerOf false
 

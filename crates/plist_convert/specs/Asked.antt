@@ -1,7 +1,8 @@
 -- The request of a command line, by the command and its arguments.
-use Rattle.std.specs.Prelude.{◌∷◌, ◌&&◌, [], Bool, List, Option, Some, None, codes, map, nat_eq}
-use Rattle.std.specs.Prelude.{if◌then◌else◌, option_and_then, option_map}
+use Rattle.std.specs.Prelude.{◌∷◌, ◌&&◌, [], Bool, false, List, Option, Some, None, codes, map}
+use Rattle.std.specs.Prelude.{if◌then◌else◌, nat_eq, option_and_then, option_map}
 use Rattle.std.specs.List.{list_any, starts_with}
+use Rattle.std.specs.Option.{option_map_or}
 use Rattle.std.specs.Str.{bytes_eq}
 use Rattle.clap.specs.Words.{Row, Text, all_of, first_of}
 use Rattle.plist_forms.specs.declared.forms.Form.{Form}
@@ -15,7 +16,7 @@ pub data Asked : Type 0 where
   Converts : Form → Text → Text → Asked
   Compares : Text → Text → Asked
   Lints : List Text → Asked
-  Checks : List Text → Asked
+  Checks : (named : Bool) → List Text → Asked
   Prints : Text → Asked
   Explains : Option Text → Asked
 
@@ -25,7 +26,7 @@ asked_by request.Filter = Filters
 asked_by (request.Convert form from to) = Converts form from.now to.now
 asked_by (request.Same first second) = Compares first.now second.now
 asked_by (request.Lint paths) = Lints (map (λ path. path.now) paths.items)
-asked_by (request.Check paths) = Checks (map (λ path. path.now) paths.items)
+asked_by (request.Check named paths) = Checks named (map (λ path. path.now) paths.items)
 asked_by (request.Print path) = Prints path.now
 asked_by (request.Explain what) = Explains (option_map (λ word. word.now) what)
 
@@ -53,11 +54,16 @@ convert_at rows =
 abbrev pub same_at : List Row → Option Asked
 same_at rows = compares (first_of (codes "A") rows) (first_of (codes "B") rows)
 
+-- the flag is given
+abbrev pub is_set : Text → List Row → Bool
+is_set name rows = option_map_or (λ text. bytes_eq text (codes "true")) (first_of name rows) false
+
 abbrev pub lint_at : List Row → Option Asked
 lint_at rows = option_map Lints (all_of (codes "IN") rows)
 
 abbrev pub check_at : List Row → Option Asked
-check_at rows = option_map Checks (all_of (codes "IN") rows)
+check_at rows =
+    option_map (Checks (is_set (codes "with-filename") rows)) (all_of (codes "IN") rows)
 
 abbrev pub print_at : List Row → Option Asked
 print_at rows = option_map Prints (first_of (codes "IN") rows)

@@ -3,6 +3,7 @@ use Rattle.std.specs.Prelude.{◌≡◌, List, [], ◌∷◌, Some, true, false,
 use Rattle.std.specs.Borrow.{Bor}
 use Rattle.clap.specs.Lexer.{usize_max}
 use Rattle.clap.specs.Words.{App, Rule, Text, new_app, new_rule, with_rule, with_subcommand}
+use Rattle.clap.specs.declared.builder.ArgAction.TheVariants.{SetTrue}
 use Rattle.clap.specs.declared.builder.ValueParser.TheVariants.{Names}
 
 -- a required argument
@@ -15,6 +16,10 @@ file_words id =
     record (file_word id)
     { range = Some (record { start_inclusive = 1; end_inclusive = usize_max }) }
 
+-- a flag, such as `--with-filename`
+abbrev pub flag_word : Text → Rule
+flag_word name = record (new_rule name) { long = Some name; action = Some SetTrue }
+
 -- a command with one file, such as `print IN`
 abbrev pub one_file : Text → App
 one_file name = with_rule (new_app name) (file_word (codes "IN"))
@@ -22,6 +27,10 @@ one_file name = with_rule (new_app name) (file_word (codes "IN"))
 -- a command with one file or more, such as `lint IN..`
 abbrev pub some_files : Text → App
 some_files name = with_rule (new_app name) (file_words (codes "IN"))
+
+-- `check [--with-filename] IN..`
+abbrev pub check : App
+check = with_rule (some_files (codes "check")) (flag_word (codes "with-filename"))
 
 -- `same A B`
 abbrev pub same : App
@@ -54,7 +63,7 @@ program forms =
     with_subcommand
     (with_subcommand (with_subcommand (with_subcommand (with_subcommand (with_subcommand
     program_top (convert forms).top) same.top) (some_files (codes "lint")).top)
-    (some_files (codes "check")).top) (one_file (codes "print")).top) explain.top
+    check.top) (one_file (codes "print")).top) explain.top
 
 -- the names of the forms, borrowed from anywhere
 abbrev pub NamesForms : Bor (List (Bor Text)) → Type 0

@@ -24,8 +24,8 @@ IsAskedRun (Compares first second) input rest before after status =
     (rest ≡ input) × IsSameRun first second before after status
 IsAskedRun (Lints paths) input rest before after status =
     (rest ≡ input) × IsLintRun paths before after status
-IsAskedRun (Checks paths) input rest before after status =
-    (rest ≡ input) × IsCheckRun paths before after status
+IsAskedRun (Checks named paths) input rest before after status =
+    (rest ≡ input) × IsCheckRun named paths before after status
 IsAskedRun (Prints path) input rest before after status =
     (rest ≡ input) × IsPrintRun path before after status
 IsAskedRun (Explains what) input rest before after status =

@@ -1,6 +1,6 @@
 -- What each command does, as a relation between the states before and after.
-use Rattle.std.specs.Prelude.{◌≡◌, ◌⊎◌, ℕ, ◌<◌, Bool, List, [], ◌∷◌, length, max, nat_lt, Option}
-use Rattle.std.specs.Prelude.{Result, MatchResult, codes}
+use Rattle.std.specs.Prelude.{◌≡◌, ◌⊎◌, ◌||◌, ℕ, ◌<◌, Bool, List, [], ◌∷◌, length, max, nat_lt}
+use Rattle.std.specs.Prelude.{Option, Result, MatchResult, codes}
 use Rattle.plist_devices.specs.Count.{one_more}
 use Rattle.plist_forms.specs.Accepted.{IsCanonicalOf}
 use Rattle.plist_forms.specs.Fault.{write_fault_for}
@@ -72,13 +72,17 @@ IsRunOfEach One (path ∷ rest) before after status =
     (One path before after status × HaveFailed before.print_failures after.print_failures)
     ⊎ IsFollowed (One path) (IsRunOfEach One rest) before after status
 
--- `check` for one path, which is alone or one of several
-unfoldable pub IsChecked : (several : Bool) → FileName → State → State → ℕ → Type 0
-IsChecked several path = IsFileRun (IsCheckAnswerOf several path) path
+-- `check` for one path, which its line has or not
+unfoldable pub IsChecked : (named : Bool) → FileName → State → State → ℕ → Type 0
+IsChecked named path = IsFileRun (IsCheckAnswerOf named path) path
 
--- `check IN..`
-unfoldable pub IsCheckRun : List FileName → State → State → ℕ → Type 0
-IsCheckRun paths = IsRunOfEach (IsChecked (nat_lt 1 (length paths))) paths
+-- Each line of `check` has its path: it is asked for, or there are several.
+abbrev pub are_named : (named : Bool) → List FileName → Bool
+are_named named paths = named || nat_lt 1 (length paths)
+
+-- `check [--with-filename] IN..`
+unfoldable pub IsCheckRun : (named : Bool) → List FileName → State → State → ℕ → Type 0
+IsCheckRun named paths = IsRunOfEach (IsChecked (are_named named paths)) paths
 
 -- `lint` for one path
 unfoldable pub IsLinted : FileName → State → State → ℕ → Type 0

@@ -10,8 +10,8 @@ abbrev pub verdict_text : Verdict → List ℕ
 verdict_text Canonical = codes "canonical"
 verdict_text (Broken rule object) = codes "broken C" ++ (decimal rule ++ place_text (Object object))
 
--- the line of a verdict, with the path if the file is one of several
-abbrev pub verdict_line_of : (several : Bool) → List ℕ → Verdict → List ℕ
+-- the line of a verdict, with the path or without it
+abbrev pub verdict_line_of : (named : Bool) → List ℕ → Verdict → List ℕ
 verdict_line_of false path verdict = verdict_text verdict
 verdict_line_of true path verdict = path ++ (codes ": " ++ verdict_text verdict)
 

@@ -42,8 +42,8 @@ pub fn check_answer<H: BuildHasher + Copy>(
     check_answer_of(alloc, hasher, false, path, octets)
 }
 
-/// Like [`check_answer`], but if the file is one of several, the line of a verdict has its path,
-/// such as `PATH: canonical`.
+/// Like [`check_answer`], but if the file is to be `named`, the line of a verdict has its path, as
+/// `PATH: canonical` has.
 ///
 /// # Errors
 ///
@@ -51,16 +51,16 @@ pub fn check_answer<H: BuildHasher + Copy>(
 pub fn check_answer_of<H: BuildHasher + Copy>(
     alloc: Global,
     hasher: H,
-    several: bool,
+    named: bool,
     path: &str,
     octets: &[u8],
 ) -> Result<Answer, AllocError>
     ensures { IfOk result (λ answer.
-        IsCheckAnswerOf several path.now octets.now (said_of answer)) }
+        IsCheckAnswerOf named path.now octets.now (said_of answer)) }
 {
     match check_with_hasher(alloc, hasher, octets) {
         Ok(verdict) => {
-            let line = verdict_line_of(alloc, several, path, verdict)?;
+            let line = verdict_line_of(alloc, named, path, verdict)?;
             with_line_end(line, verdict_status(verdict))
         }
         Err(fault) => refused(alloc, path, &Fault::from(fault)),

@@ -2,12 +2,12 @@
 ghost use Rattle.std.specs.Prelude.{◌≡◌, IfOk, IsOkAnd, codes, false};
 ghost use Rattle.clap.specs.Words.{AddsSubcommand, app_of, new_app, rule_of};
 ghost use Rattle.plist_convert.specs.CommandLine.{IsConvert, IsProgram, any_words, file_word};
-ghost use Rattle.plist_convert.specs.CommandLine.{file_words};
+ghost use Rattle.plist_convert.specs.CommandLine.{check as check_line, file_words, flag_word};
 ghost use Rattle.plist_convert.specs.CommandLine.{explain as explain_line, one_file, program_top};
 ghost use Rattle.plist_convert.specs.CommandLine.{same as same_line, some_files};
 
 use crate::help;
-use clap::{Arg, Command};
+use clap::{Arg, ArgAction, Command};
 use std::alloc::{AllocError, Global};
 
 static FORMS: [&str; 2] = ["binary1", "openstep"];
@@ -18,10 +18,8 @@ pub(crate) fn program<'a>(alloc: Global) -> Result<Command<'a>, AllocError>
 {
     let command = with_subcommand(top(alloc), convert(alloc))?;
     let command = with_subcommand(command, same(alloc))?;
-    let lint = of_files(alloc, "lint", help::LINT_ABOUT, help::LINT_AFTER);
-    let command = with_subcommand(command, lint)?;
-    let check = of_files(alloc, "check", help::CHECK_ABOUT, help::CHECK_AFTER);
-    let command = with_subcommand(command, check)?;
+    let command = with_subcommand(command, lint(alloc))?;
+    let command = with_subcommand(command, check(alloc))?;
     let command = with_subcommand(command, print(alloc))?;
     with_subcommand(command, explain(alloc))
 }
@@ -63,16 +61,27 @@ fn same<'a>(alloc: Global) -> Result<Command<'a>, AllocError>
         .arg(required(alloc, "B", "The other file"))
 }
 
-/// Returns a command with one file or more.
-fn of_files<'a>(
-    alloc: Global,
-    name: &'a str,
-    about: &'a str,
-    after: &'a str,
-) -> Result<Command<'a>, AllocError>
-    ensures { IfOk result (λ command. app_of command ≡ some_files name.entry.now) }
+fn lint<'a>(alloc: Global) -> Result<Command<'a>, AllocError>
+    ensures { IfOk result (λ command. app_of command ≡ some_files (codes "lint")) }
 {
-    described(alloc, name, about, after).arg(several(alloc, "IN", "The files to read"))
+    described(alloc, "lint", help::LINT_ABOUT, help::LINT_AFTER).arg(several(
+        alloc,
+        "IN",
+        "The files to read",
+    ))
+}
+
+fn check<'a>(alloc: Global) -> Result<Command<'a>, AllocError>
+    ensures { IfOk result (λ command. app_of command ≡ check_line) }
+{
+    let named = flag(
+        alloc,
+        "with-filename",
+        "Print the path of a single file too",
+    );
+    described(alloc, "check", help::CHECK_ABOUT, help::CHECK_AFTER)
+        .arg(several(alloc, "IN", "The files to read"))?
+        .arg(named)
 }
 
 fn print<'a>(alloc: Global) -> Result<Command<'a>, AllocError>
@@ -116,6 +125,17 @@ fn several<'a>(alloc: Global, id: &'a str, text: &'a str) -> Arg<'a>
     ensures local { result.global ≡ false }
 {
     Arg::new(alloc, id).required(true).num_args(1..).help(text)
+}
+
+/// Returns a flag: `--` and its name.
+fn flag<'a>(alloc: Global, name: &'a str, text: &'a str) -> Arg<'a>
+    ensures rule { rule_of result ≡ flag_word name.entry.now }
+    ensures local { result.global ≡ false }
+{
+    Arg::new(alloc, name)
+        .long(name)
+        .action(ArgAction::SetTrue)
+        .help(text)
 }
 
 /// Returns an optional argument with any number of values.

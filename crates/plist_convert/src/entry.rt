@@ -170,7 +170,9 @@ fn execute<H: BuildHasher + Copy, D: Disk, S: Source, W: Sink>(
             alloc, hasher, disk, first, second, output,
         ),
         Request::Lint { paths } => lint_files(alloc, disk, paths.as_slice(), output),
-        Request::Check { paths } => check_files(alloc, hasher, disk, paths.as_slice(), output),
+        Request::Check { named, paths } => {
+            check_files(alloc, hasher, disk, named, paths.as_slice(), output)
+        }
         Request::Print { path } => print_file(alloc, disk, path, output),
         Request::Explain { what } => explain_what(alloc, what, output),
     }

@@ -3,7 +3,7 @@ ghost use Rattle.std.specs.Prelude.{◌≡◌, ℕ, Option, map, option_map};
 ghost use Rattle.plist_convert.specs.Files.{Files};
 ghost use Rattle.plist_convert.specs.Runs.{IsCheckRun, IsChecked, IsConvertRun, IsLintRun};
 ghost use Rattle.plist_convert.specs.Runs.{IsExplainRun, IsLinted, IsPrintRun, IsSameRun};
-ghost use Rattle.plist_convert.specs.Runs.{path_of_fault};
+ghost use Rattle.plist_convert.specs.Runs.{are_named, path_of_fault};
 ghost use Rattle.plist_convert.specs.State.{state};
 
 use crate::answers::{check_answer_of, explain_answer, lint_answer, same_answer};
@@ -15,16 +15,17 @@ use plist_forms::{Fault, Form, Status, print};
 use std::alloc::Global;
 use std::hash::BuildHasher;
 
-/// Executes `check IN..`. If there are several paths, each line has its path. Only one file is in
-/// memory at a time.
+/// Executes `check IN..`. Each line has its path if that is asked for, or if there are several.
+/// Only one file is in memory at a time.
 pub(crate) fn check_files<H: BuildHasher + Copy, D: Disk, W: Sink>(
     alloc: Global,
     hasher: H,
     disk: &mut D,
+    named: bool,
     paths: &[&str],
     output: &mut W,
 ) -> u8
-    ensures run { IsCheckRun (map (λ path. path.now) paths.now)
+    ensures run { IsCheckRun named (map (λ path. path.now) paths.now)
         (state (D.files disk.old) (D.failures disk.old)
         (W.taken output.old) (W.failures output.old))
         (state (D.files disk.new) (D.failures disk.new)
@@ -32,11 +33,11 @@ pub(crate) fn check_files<H: BuildHasher + Copy, D: Disk, W: Sink>(
         result }
     ensures same { W.device output.new ≡ W.device output.old }
 {
-    let several = paths.len() > 1;
+    let with_path = are_named(named, paths);
     let mut status = 0u8;
     for path in paths {
         let failures = output.failures();
-        status = status.max(check_file(alloc, hasher, disk, several, path, output));
+        status = status.max(check_file(alloc, hasher, disk, with_path, path, output));
         if have_failed(failures, output.failures()) {
             return status;
         }
@@ -44,16 +45,23 @@ pub(crate) fn check_files<H: BuildHasher + Copy, D: Disk, W: Sink>(
     status
 }
 
-/// Executes `check` for one path, which is alone or one of several.
+/// Returns whether each line of `check` has its path.
+fn are_named(named: bool, paths: &[&str]) -> bool
+    ensures { result ≡ are_named named (map (λ path. path.now) paths.now) }
+{
+    named || paths.len() > 1
+}
+
+/// Executes `check` for one path, which its line has if it is to be named.
 fn check_file<H: BuildHasher + Copy, D: Disk, W: Sink>(
     alloc: Global,
     hasher: H,
     disk: &mut D,
-    several: bool,
+    named: bool,
     path: &str,
     output: &mut W,
 ) -> u8
-    ensures run { IsChecked several path.now
+    ensures run { IsChecked named path.now
         (state (D.files disk.old) (D.failures disk.old)
         (W.taken output.old) (W.failures output.old))
         (state (D.files disk.new) (D.failures disk.new)
@@ -64,7 +72,7 @@ fn check_file<H: BuildHasher + Copy, D: Disk, W: Sink>(
     match disk.load(alloc, path) {
         Ok(octets) => give(
             output,
-            check_answer_of(alloc, hasher, several, path, octets.as_slice()),
+            check_answer_of(alloc, hasher, named, path, octets.as_slice()),
         ),
         Err(fault) => report(alloc, path, &fault, output),
     }

@@ -92,7 +92,8 @@ pub(crate) const CHECK_AFTER: &str = "\
 Reads a binary property list (bplist00) from IN, and writes no file. Prints one
 line: canonical, or a rule that is broken and the object at which this was seen,
 such as broken C7 at object 0. Several files get a line each, as IN: canonical,
-in the order given, and the greatest of their exit statuses.
+in the order given, and the greatest of their exit statuses. A single file too
+has its path with --with-filename, as the last batch of xargs may be one.
 
   C0  every object can be read, and the value is within the limits
   C1  the trailer begins with six zeros, and the top object is 0

@@ -2,9 +2,9 @@
 ghost use Rattle.std.specs.Prelude.{◌≡◌, IfOk, IfSome, IsOkAnd, None, map, option_map};
 ghost use Rattle.clap.specs.Words.{all_of, app_of, first_of, found_of, rows_of};
 ghost use Rattle.clap.specs.Words.{subcommand_rows_of};
-ghost use Rattle.plist_convert.specs.Asked.{asked_by, asked_at, convert_at, explain_at, form_of};
-ghost use Rattle.plist_convert.specs.Asked.{asked_unparsed, is_dash_line, line_asked};
-ghost use Rattle.plist_convert.specs.Asked.{print_at, same_at};
+ghost use Rattle.plist_convert.specs.Asked.{asked_by, asked_at, asked_unparsed, check_at};
+ghost use Rattle.plist_convert.specs.Asked.{convert_at, explain_at, form_of, is_dash_line, is_set};
+ghost use Rattle.plist_convert.specs.Asked.{line_asked, print_at, same_at};
 ghost use Rattle.plist_convert.specs.CommandLine.{IsProgram};
 ghost use Rattle.plist_convert.specs.Reading.{IsReading};
 
@@ -97,7 +97,7 @@ fn request_of<'a>(
         "convert" => Ok(convert_request(given)),
         "same" => Ok(same_request(given)),
         "lint" => Ok(values(alloc, given, "IN")?.map(|paths| Request::Lint { paths })),
-        "check" => Ok(values(alloc, given, "IN")?.map(|paths| Request::Check { paths })),
+        "check" => check_request(alloc, given),
         "print" => Ok(print_request(given)),
         "explain" => Ok(explain_request(given)),
         _ => Ok(None),
@@ -121,6 +121,17 @@ fn same_request<'a>(given: &ArgMatches<'a>) -> Option<Request<'a>>
         first: value(given, "A")?,
         second: value(given, "B")?,
     })
+}
+
+fn check_request<'a>(
+    alloc: Global,
+    given: &ArgMatches<'a>,
+) -> Result<Option<Request<'a>>, AllocError>
+    ensures { IfOk result (λ request.
+        option_map asked_by request ≡ check_at (rows_of (found_of given.now))) }
+{
+    let named = is_set(given, "with-filename");
+    Ok(values(alloc, given, "IN")?.map(|paths| Request::Check { named, paths }))
 }
 
 fn print_request<'a>(given: &ArgMatches<'a>) -> Option<Request<'a>>
@@ -155,6 +166,16 @@ fn value<'a>(given: &ArgMatches<'a>, id: &str) -> Option<&'a str>
         ≡ first_of id.now (rows_of (found_of given.now)) }
 {
     given.get_str(id)
+}
+
+/// Returns whether the flag is given.
+fn is_set(given: &ArgMatches, name: &str) -> bool
+    ensures { result ≡ is_set name.now (rows_of (found_of given.now)) }
+{
+    match value(given, name) {
+        Some(text) => text == "true",
+        None => false,
+    }
 }
 
 /// Returns all values of this argument, in the order given.

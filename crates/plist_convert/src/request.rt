@@ -22,8 +22,10 @@ pub enum Request<'a> {
     Lint {
         paths: Vec<&'a str>,
     },
-    /// `check IN..`: checks whether each file is canonical.
+    /// `check [--with-filename] IN..`: checks whether each file is canonical. Each line has its
+    /// path if that is asked for, or if there are several.
     Check {
+        named: bool,
         paths: Vec<&'a str>,
     },
     /// `print IN`: prints the value of a file to standard output.

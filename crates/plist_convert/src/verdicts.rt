@@ -21,18 +21,18 @@ fn verdict_line(alloc: Global, verdict: Verdict) -> Result<String, AllocError>
     }
 }
 
-/// Returns the line of a verdict, after the path and `: ` if the file is one of several.
+/// Returns the line of a verdict, after the path and `: ` if the file is to be named.
 pub(crate) fn verdict_line_of(
     alloc: Global,
-    several: bool,
+    named: bool,
     path: &str,
     verdict: Verdict,
 ) -> Result<String, AllocError>
     ensures { IfOk result (λ text.
-        string_bytes text ≡ verdict_line_for several path.now verdict) }
+        string_bytes text ≡ verdict_line_for named path.now verdict) }
 {
     let line = verdict_line(alloc, verdict)?;
-    if several {
+    if named {
         format!(in alloc; "{path}: {line}")
     } else {
         Ok(line)

@@ -7,6 +7,8 @@ mod device_tests;
 #[cfg(test)]
 mod ending_tests;
 #[cfg(test)]
+mod explain_tests;
+#[cfg(test)]
 mod growths;
 #[cfg(test)]
 mod help_tests;

@@ -18,7 +18,7 @@ const FILES: [(&str, &[u8]); 6] = [
 ];
 
 /// Each path has its line, in the order given, and the status is the greatest.
-const ROWS: [&str; 17] = [
+const ROWS: [&str; 23] = [
     "lint a.bin|0 a.bin: OK\n",
     "lint a.bin a.txt|0 a.bin: OK\na.txt: OK\n",
     "lint a.txt a.bin|0 a.txt: OK\na.bin: OK\n",
@@ -39,6 +39,13 @@ const ROWS: [&str; 17] = [
       a.txt: refused 1 TooShort\na.bin: canonical\n",
     "check missing a.txt|4 missing: refused 50 ReadFailed\na.txt: refused 1 TooShort\n",
     "check -- -x a.bin|0 -x: canonical\na.bin: canonical\n",
+    "check --with-filename a.bin|0 a.bin: canonical\n",
+    "check --with-filename unsorted.bin|1 unsorted.bin: broken C5 at object 0\n",
+    "check a.txt --with-filename|2 a.txt: refused 1 TooShort\n",
+    "check a.bin --with-filename values.bin|1 a.bin: canonical\n\
+      values.bin: broken C7 at object 0\n",
+    "check --with-filename -- -x|0 -x: canonical\n",
+    "check -- --with-filename|4 --with-filename: refused 50 ReadFailed\n",
 ];
 
 fn disk_of_files(alloc: Global) -> Result<FileDisk<MemoryFiles, FixedHasher>, AllocError> {
@@ -92,6 +99,10 @@ fn a_path_is_required(rt: HostRuntime) -> Result<(), Fail> {
         "check --",
         "lint a.bin -x",
         "check -x",
+        "check --with-filename",
+        "check --with-filename=a.bin",
+        "check --with-filename --with-filename a.bin",
+        "lint --with-filename a.bin",
     ] {
         let (status, output) = ran(alloc, &mut disk_of_files(alloc)?, row, 6000)?;
         let is_error = output.taken().starts_with(b"error: ");

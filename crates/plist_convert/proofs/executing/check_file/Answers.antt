@@ -11,8 +11,8 @@ unfolding IsChecked
 returns-in-Ok-clause-run g c =
     let before = state (g.D.Disk.files c.args.disk.now) (g.D.Disk.failures c.args.disk.now) (g.W.Sink.taken c.args.output.now) (g.W.Sink.failures c.args.output.now) in
     let after = state (g.D.Disk.files c.load.new.self) (g.D.Disk.failures c.load.new.self) (g.W.Sink.taken c.give.new.output) (g.W.Sink.failures c.give.new.output) in
-    let answers : IfOk c.check_answer_of.result (λ a. IsCheckAnswerOf c.args.several c.args.path.now c.in-Ok.octets.items (said_of a)) = search rules in
-    file_answered (IsCheckAnswerOf c.args.several c.args.path.now) c.args.path.now before after c.give.result c.in-Ok.octets.items c.check_answer_of.result
+    let answers : IfOk c.check_answer_of.result (λ a. IsCheckAnswerOf c.args.named c.args.path.now c.in-Ok.octets.items (said_of a)) = search rules in
+    file_answered (IsCheckAnswerOf c.args.named c.args.path.now) c.args.path.now before after c.give.result c.in-Ok.octets.items c.check_answer_of.result
     c.in-Ok.ensures.loads.found c.in-Ok.ensures.loads.kept c.in-Ok.ensures.loads.unfailed answers c.give.ensures.ends
 
 pub returns-in-Err-clause-run : goal.returns-in-Err-clause-run
