@@ -39,6 +39,8 @@ mod prefixes;
 #[cfg(test)]
 mod print_tests;
 #[cfg(test)]
+mod sending_tests;
+#[cfg(test)]
 mod sink_tests;
 #[cfg(test)]
 mod texts;

@@ -1,10 +1,91 @@
-//! Single objects: which are handed over in their encoding of the file, and that a failed put
-//! leaves the list unchanged.
-use plist_object::{BinFile, put_list, put_scalar, put_table};
-use plist_value::{ScalarRef, TextRef};
+//! Single objects: how long they are, which are handed over in their encoding of the file, and that
+//! a failed put leaves the list unchanged.
+use plist_object::{
+    BinFile, list_length, put_list, put_scalar, put_table, scalar_length, table_length, width_of,
+};
+use plist_value::{ScalarRef, TextRef, Whole};
 use std::alloc::AllocError;
 use std::test::Fail;
 use test_files::file_of;
+
+/// Numbers, and the bytes that each takes.
+const WIDTHS: [(u64, u8); 8] = [
+    (0, 1),
+    (0xff, 1),
+    (0x100, 2),
+    (0xffff, 2),
+    (0x1_0000, 4),
+    (0xffff_ffff, 4),
+    (0x1_0000_0000, 8),
+    (u64::MAX, 8),
+];
+
+/// The bytes of a marker and a length, by the length.
+const HEADS: [(usize, u64); 5] = [(0, 1), (14, 1), (15, 3), (255, 3), (256, 4)];
+
+/// Whole numbers, and the bytes of each.
+const WHOLES: [(i128, u64); 7] = [
+    (0, 2),
+    (255, 2),
+    (256, 3),
+    (65_536, 5),
+    (1 << 32, 9),
+    (-1, 9),
+    (1 << 63, 17),
+];
+
+const LETTERS: [u8; 600] = [b'a'; 600];
+
+// Returns whether strings and data of this length, and the array and the dictionary of as many
+// references, have a marker and a length of `head` bytes.
+fn has_head(count: usize, head: u64) -> bool {
+    let (Some(letters), Some(pairs)) = (LETTERS.get(..count), LETTERS.get(..2 * count)) else {
+        return false;
+    };
+    let (Some(ascii), Some(wide)) = (TextRef::of_ascii(letters), TextRef::of_wide(pairs)) else {
+        return false;
+    };
+    let length = count as u64;
+    scalar_length(&ScalarRef::Text(ascii)) == head + length
+        && scalar_length(&ScalarRef::Text(wide)) == head + 2 * length
+        && scalar_length(&ScalarRef::Bytes(letters)) == head + length
+        && list_length(length, 4) == head + 4 * length
+        && table_length(length, 1) == head + 2 * length
+}
+
+#[test]
+fn widths_and_lengths(rt: HostRuntime) -> Result<(), Fail> {
+    for (number, width) in WIDTHS {
+        assert!(rt; width_of(number) == width, "{number}");
+    }
+    for (count, head) in HEADS {
+        assert!(rt; has_head(count, head), "{count}");
+    }
+    for (number, length) in WHOLES {
+        let whole = Whole::new(number).ok_or("in the range")?;
+        assert!(rt;
+            scalar_length(&ScalarRef::Whole(whole)) == length,
+            "{number}"
+        );
+    }
+    for (scalar, length) in [
+        (ScalarRef::Flag(true), 1),
+        (ScalarRef::Real4([0; 4]), 5),
+        (ScalarRef::Real8([0; 8]), 9),
+        (ScalarRef::Moment([0; 8]), 9),
+    ] {
+        assert!(rt; scalar_length(&scalar) == length, "{length}");
+    }
+    // 15 and 300 letters.
+    for (count, length) in [(15, 18), (300, 304)] {
+        let text = LETTERS
+            .get(..count)
+            .and_then(TextRef::of_ascii)
+            .ok_or("ASCII")?;
+        assert!(rt; scalar_length(&ScalarRef::Text(text)) == length, "{count}");
+    }
+    Ok(())
+}
 
 // An array, and scalars, of which the last two are not in their shortest encoding.
 const OBJECTS: [&[u8]; 11] = [

@@ -6,6 +6,7 @@ use plist_canon::check;
 use plist_forms::read_any;
 use std::alloc::Global;
 use std::test::Fail;
+use test_files::tower;
 
 // Returns the numbers of the refusals of the check, the reader and the lexer, 0 for none.
 fn codes(alloc: Global, octets: &[u8]) -> [u8; 3] {
@@ -47,7 +48,10 @@ fn first_other(alloc: Global, octets: &[u8]) -> Option<usize> {
 
 #[test]
 fn prefixes_of_files(rt: HostRuntime) -> Result<(), Fail> {
-    for octets in files(rt.alloc())? {
+    let mut files = files(rt.alloc())?;
+    // A file that is refused for the number of its nodes.
+    files.push(tower(rt.alloc())?)?;
+    for octets in files {
         assert_eq!(rt; first_other(rt.alloc(), octets.as_slice()), None);
     }
     Ok(())

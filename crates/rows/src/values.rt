@@ -2,11 +2,16 @@
 use crate::octets::shown;
 use ostep_text::write_text;
 use plist_canon::{Verdict, canonical, check};
+use plist_devices::ListSink;
 use plist_forms::{
     Fault, PairFault, begins_as_binary, canonicalise, judge_any, line, read_any, same_files,
+    write_openstep,
 };
 use std::alloc::{AllocError, Global};
 use std::fmt::Write;
+
+// The maximum number of bytes of a written text.
+const ROOM: usize = 65_536;
 
 /// Returns the line for the value, or for the refusal. If the calls of the library disagree, the
 /// line says so.
@@ -18,12 +23,16 @@ pub(crate) fn answer_value(alloc: Global, name: &str, octets: &[u8]) -> Result<S
             match write_text(alloc, &value) {
                 Ok(text) => {
                     write!(said, "; {}", shown(text.as_slice()))?;
+                    let is_whole = is_sent(alloc, octets, Ok(text.as_slice()))?;
                     put_unless(
                         &mut said,
-                        is_file_of(alloc, text.as_slice(), file.as_slice()),
+                        is_whole && is_file_of(alloc, text.as_slice(), file.as_slice()),
                     )?;
                 }
-                Err(fault) => write!(said, "; refused {fault} ({})", fault.code())?,
+                Err(fault) => {
+                    write!(said, "; refused {fault} ({})", fault.code())?;
+                    put_unless(&mut said, is_sent(alloc, octets, Err(fault.code()))?)?;
+                }
             }
             put_unless(&mut said, is_file_of(alloc, octets, file.as_slice()))?;
             said
@@ -31,7 +40,8 @@ pub(crate) fn answer_value(alloc: Global, name: &str, octets: &[u8]) -> Result<S
         Err(fault) => {
             let mut said = line(alloc, name, &fault)?;
             write!(said, " ({}, status {})", fault.code(), fault.status())?;
-            put_unless(&mut said, is_refused(alloc, octets, fault))?;
+            let is_unsent = is_sent(alloc, octets, Err(fault.code()))?;
+            put_unless(&mut said, is_unsent && is_refused(alloc, octets, fault))?;
             said
         }
     };
@@ -61,6 +71,16 @@ fn is_file_of(alloc: Global, octets: &[u8], file: &[u8]) -> bool {
         && same_files(alloc, octets, file) == Ok(true)
         && same_files(alloc, octets, b"(rows)") == Ok(false)
         && check(alloc, file) == Ok(Verdict::Canonical)
+}
+
+// Returns whether the OpenStep text of the value is sent, or nothing for the number of a refusal.
+fn is_sent(alloc: Global, octets: &[u8], text: Result<&[u8], u8>) -> Result<bool, AllocError> {
+    let mut sink = ListSink::new(alloc, ROOM, ROOM)?;
+    let sent = write_openstep(alloc, octets, &mut sink);
+    Ok(match text {
+        Ok(text) => sent == Ok(text.len() as u64) && sink.taken() == text,
+        Err(code) => sent.map_err(|fault| fault.code()) == Err(code) && sink.taken().is_empty(),
+    })
 }
 
 // Returns whether every call refuses the input with this fault, as the first and as the second of
