@@ -3,6 +3,8 @@
 #![tactic(auto)]
 
 #[cfg(test)]
+mod convert_tests;
+#[cfg(test)]
 mod device_tests;
 #[cfg(test)]
 mod ending_tests;
