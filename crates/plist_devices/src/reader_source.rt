@@ -47,17 +47,31 @@ impl<D: ReadDevice> Source for ReaderSource<D> {
         ensures read { reader_failures self.old < count_limit
             → D.read_gives (reader_device self.old) (reader_device self.new) into.new result }
     {
-        if self.failures == u64::MAX {
-            return Err(DeviceFault);
-        }
-        let result = self.device.read_once(into);
-        if result.is_err() {
-            self.failures += 1;
-        }
-        result
+        take_from(&mut self.device, &mut self.failures, into)
     }
 
     fn failures(&self) -> u64 {
         self.failures
     }
+}
+
+/// Reads from the device once and counts a failure.
+pub(crate) fn take_from<D: ReadDevice>(
+    device: &mut D,
+    failures: &mut u64,
+    into: &mut [u8],
+) -> Result<usize, DeviceFault>
+    ensures take { IsTake (D.remaining device.old) (D.remaining device.new)
+        failures.old failures.new result into.new }
+    ensures read { failures.old < count_limit
+        → D.read_gives device.old device.new into.new result }
+{
+    if *failures == u64::MAX {
+        return Err(DeviceFault);
+    }
+    let result = device.read_once(into);
+    if result.is_err() {
+        *failures += 1;
+    }
+    result
 }
