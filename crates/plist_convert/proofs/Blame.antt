@@ -39,7 +39,7 @@ use Rattle.plist_convert.specs.Program.{DeviceFailed, IsAskedRun, IsRun}
 use Rattle.plist_convert.specs.Runs.{EndsSending, IsAnswered, IsCheckRun, IsChecked, IsConvertRun, IsExplainRun, IsFileRun, IsFiltered, IsFilterRun, IsInputFault, IsLinted, IsLintRun, IsPrintRun, IsRunOfEach, IsSameRun, IsUnread, IsWanting, are_named, refusal_between, standard}
 use Rattle.plist_convert.specs.State.{Ending, Input, State}
 use Rattle.plist_convert.specs.Verdicts.{verdict_status_for}
-use Rattle.plist_convert.proofs.Each.{Single}
+use Rattle.plist_convert.proofs.Each.{Single, failed_or_not}
 
 -- numbers that are not 4
 no_0 : ◌≢◌ {A = ℕ} 0 4
@@ -250,31 +250,31 @@ both_since before middle after counts (inr print) = inr (failed_since _ _ _ coun
 abbrev AllCount : Single → Type 0
 AllCount One = (path : FileName) (before after : State) (status : ℕ) → One path before after status → BothCount before after
 
-each_after : (One : Single) (paths : List FileName) (before middle after : State) (status : ℕ) → AllCount One → Failed before middle
-    → IsRunOfEach One paths middle after status → Failed before after
-unfolding IsRunOfEach
-each_after One [] before middle after status counts failed run = rw run.0 failed
-each_after One (path ∷ rest) before middle after status counts failed (inl cut) = both_after before middle after (counts path middle after status cut.0) failed
-each_after One (path ∷ rest) before middle after status counts failed (inr run) =
-    each_after One rest before run.middle after run.last counts (both_after before middle run.middle (counts path middle run.middle run.first run.done) failed) run.others
-
 greatest_four : (a b : ℕ) → max a b ≡ 4 → (a ≡ 4) ⊎ (b ≡ 4)
 greatest_four a b four = elim (cases_lt a 4) [
   | inl less ↦ inr (omega (arith, less, four))
   | inr most ↦ inl (omega (arith, most, four))
 ]
 
-each_blamed : (One : Single) (paths : List FileName) (before after : State) (status : ℕ) → AllCount One
+-- a run for each path, where Failed start is true of what went before
+each_blamed : (One : Single) (paths : List FileName) (start before after : State) (least status : ℕ) → AllCount One
     → ((path : FileName) (b a : State) (s : ℕ) → One path b a s → s ≡ 4 → Failed b a)
-    → IsRunOfEach One paths before after status → status ≡ 4 → Failed before after
+    → ((later : State) → Failed before later → Failed start later) → (least ≡ 4 → Failed start before)
+    → IsRunOfEach One paths least before after status → status ≡ 4 → Failed start after
 unfolding IsRunOfEach
-each_blamed One [] before after status counts blames run four = absurd (no_0 (sym run.1 ∙ four))
-each_blamed One (path ∷ rest) before after status counts blames (inl cut) four = inr cut.1
-each_blamed One (path ∷ rest) before after status counts blames (inr run) four = elim (greatest_four run.first run.last (sym run.greatest ∙ four)) [
-  | inl first ↦ each_after One rest before run.middle after run.last counts (blames path before run.middle run.first run.done first) run.others
-  | inr last ↦ both_since before run.middle after (counts path before run.middle run.first run.done)
-      (each_blamed One rest run.middle after run.last counts blames run.others last)
-]
+each_blamed One [] start before after least status counts blames since so_far run four = rw run.0 (so_far (sym run.1 ∙ four))
+each_blamed One (path ∷ rest) start before after least status counts blames since so_far run four =
+    let here : BothCount before run.middle = counts path before run.middle run.own run.done in
+    elim (failed_or_not before.print_failures run.middle.print_failures) [
+      | inl failed ↦ rw (run.cut failed).0 (since run.middle (inr failed))
+      | inr printed ↦ each_blamed One rest start run.middle after (max least run.own) status counts blames
+          (λ later failed. since later (both_since before run.middle later here failed))
+          (λ greatest. elim (greatest_four least run.own greatest) [
+            | inl before_four ↦ both_after start before run.middle here (so_far before_four)
+            | inr own_four ↦ since run.middle (blames path before run.middle run.own run.done own_four)
+          ])
+          (run.printed printed) four
+    ]
 
 checked_count : (several : Bool) → AllCount (IsChecked several)
 unfolding IsChecked
@@ -289,11 +289,12 @@ check_blamed : (named : Bool) (paths : List FileName) (before after : State) (st
 unfolding IsCheckRun
 check_blamed named paths before after status run four =
     let each = are_named named paths in
-    each_blamed (IsChecked each) paths before after status (checked_count each) (checked_blamed each) run four
+    each_blamed (IsChecked each) paths before before after 0 status (checked_count each) (checked_blamed each) (λ later failed. failed) (λ four. absurd (no_0 four)) run four
 
 lint_blamed : (paths : List FileName) (before after : State) (status : ℕ) → IsLintRun paths before after status → status ≡ 4 → Failed before after
 unfolding IsLintRun
-lint_blamed paths before after status run four = each_blamed IsLinted paths before after status linted_count linted_blamed run four
+lint_blamed paths before after status run four = 
+    each_blamed IsLinted paths before before after 0 status linted_count linted_blamed (λ later failed. failed) (λ four. absurd (no_0 four)) run four
 
 same_blamed : (first second : FileName) (before after : State) (status : ℕ) → IsSameRun first second before after status → status ≡ 4 → Failed before after
 unfolding IsSameRun

@@ -51,26 +51,27 @@ IsFileRun Answers path before after status =
     IsUnread path before after status
     ⊎ (IsAnswered Answers path before after status ⊎ IsWanting before after status)
 
--- The line of one path is printed, and then those of others. The status is the greater.
-pub record IsFollowed (One Others : State → State → ℕ → Type 0) (before after : State) (status : ℕ)
-    : Type 0 where
+-- The run of one path, and then those of others, unless its line cannot be printed: then the run
+-- ends with 4.
+pub record IsFollowed (One : State → State → ℕ → Type 0)
+    (Others : (least : ℕ) → State → State → ℕ → Type 0)
+    (least : ℕ) (before after : State) (status : ℕ) : Type 0 where
   pub middle : State
-  pub first : ℕ
-  pub last : ℕ
-  pub done : One before middle first
-  pub printed : HaveFailed before.print_failures middle.print_failures → ⊥
-  pub others : Others middle after last
-  pub greatest : status ≡ max first last
+  pub own : ℕ
+  pub done : One before middle own
+  pub printed : (HaveFailed before.print_failures middle.print_failures → ⊥)
+      → Others (max least own) middle after status
+  pub cut : HaveFailed before.print_failures middle.print_failures
+      → (after ≡ middle) × (status ≡ 4)
 
 -- A run for each path, in the order given. The lines are those of the single runs, one after
--- another, and the status is the greatest of theirs. The first path whose line cannot be printed is
--- the last.
-unfoldable pub IsRunOfEach : (FileName → State → State → ℕ → Type 0) → List FileName → State → State
-    → ℕ → Type 0
-IsRunOfEach One [] before after status = (after ≡ before) × (status ≡ 0)
-IsRunOfEach One (path ∷ rest) before after status =
-    (One path before after status × HaveFailed before.print_failures after.print_failures)
-    ⊎ IsFollowed (One path) (IsRunOfEach One rest) before after status
+-- another. The status is the greatest of theirs and the least one, but 4 if a line cannot be
+-- printed: its path is then the last.
+unfoldable pub IsRunOfEach : (FileName → State → State → ℕ → Type 0) → List FileName → (least : ℕ)
+    → State → State → ℕ → Type 0
+IsRunOfEach One [] least before after status = (after ≡ before) × (status ≡ least)
+IsRunOfEach One (path ∷ rest) least before after status =
+    IsFollowed (One path) (IsRunOfEach One rest) least before after status
 
 -- `check` for one path, which its line has or not
 unfoldable pub IsChecked : (named : Bool) → FileName → State → State → ℕ → Type 0
@@ -82,7 +83,7 @@ are_named named paths = named || nat_lt 1 (length paths)
 
 -- `check [--with-filename] IN..`
 unfoldable pub IsCheckRun : (named : Bool) → List FileName → State → State → ℕ → Type 0
-IsCheckRun named paths = IsRunOfEach (IsChecked (are_named named paths)) paths
+IsCheckRun named paths = IsRunOfEach (IsChecked (are_named named paths)) paths 0
 
 -- `lint` for one path
 unfoldable pub IsLinted : FileName → State → State → ℕ → Type 0
@@ -90,7 +91,7 @@ IsLinted path = IsFileRun (IsLintAnswer path) path
 
 -- `lint IN..`
 unfoldable pub IsLintRun : List FileName → State → State → ℕ → Type 0
-IsLintRun = IsRunOfEach IsLinted
+IsLintRun paths = IsRunOfEach IsLinted paths 0
 
 -- The first file is loaded, and the second is not.
 pub record IsSecondUnread (first second : FileName) (before after : State)

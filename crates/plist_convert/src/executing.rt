@@ -39,7 +39,7 @@ pub(crate) fn check_files<H: BuildHasher + Copy, D: Disk, W: Sink>(
         let failures = output.failures();
         status = status.max(check_file(alloc, hasher, disk, with_path, path, output));
         if have_failed(failures, output.failures()) {
-            return status;
+            return Status::DeviceFailed.code();
         }
     }
     status
@@ -98,7 +98,7 @@ pub(crate) fn lint_files<D: Disk, W: Sink>(
         let failures = output.failures();
         status = status.max(lint_file(alloc, disk, path, output));
         if have_failed(failures, output.failures()) {
-            return status;
+            return Status::DeviceFailed.code();
         }
     }
     status

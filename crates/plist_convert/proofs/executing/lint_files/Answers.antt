@@ -10,7 +10,7 @@ returns-then-have_failed-clause-run g c =
     let before = state (g.D.Disk.files c.args.disk.now) (g.D.Disk.failures c.args.disk.now) (g.W.Sink.taken c.args.output.now) (g.W.Sink.failures c.args.output.now) in
     let now = state (g.D.Disk.files c.loop-path.disk) (g.D.Disk.failures c.loop-path.disk) (g.W.Sink.taken c.loop-path.output) (g.W.Sink.failures c.loop-path.output) in
     let after = state (g.D.Disk.files c.lint_file.new.disk) (g.D.Disk.failures c.lint_file.new.disk) (g.W.Sink.taken c.lint_file.new.output) (g.W.Sink.failures c.lint_file.new.output) in
-    rw c.max-status.ensures (cut_off IsLinted c.args.paths.now before now after c.loop-path.path-index c.loop-path.status c.lint_file.result _ (search rules)
+    rw c.code.ensures.code (cut_off IsLinted c.args.paths.now before now after c.loop-path.path-index c.loop-path.status c.lint_file.result _ (search rules)
     c.loop-path.invariant.each c.lint_file.ensures.run (search rules))
 
 pub loop-path-preserved : goal.loop-path-preserved
