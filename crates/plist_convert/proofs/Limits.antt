@@ -19,7 +19,7 @@ use Rattle.plist_forms.specs.Sent.{answer_of}
 use Rattle.plist_forms.specs.Transfer.{Writes}
 use Rattle.plist_convert.specs.FileDisk.{IsFull, IsFullAt, told}
 use Rattle.plist_convert.specs.Files.{CountsFailure, FileName, Files, IsStored, SameFiles, Stores}
-use Rattle.plist_convert.specs.Opens.{IsFilled, IsUnwritten, IsWithin, MayEmpty, StaysWithin, held_by, is_begun}
+use Rattle.plist_convert.specs.Opens.{BlamesDevice, IsFilled, IsUnwritten, IsWithin, MayEmpty, NeedsMemory, StaysWithin, held_by, is_begun}
 
 -- no refusal of the bytes is a failure of the device
 no_device : (form : Form) (octets : List ℕ) (sent : ℕ) → IsOutputFault form octets (WriteFailed sent) → ⊥
@@ -130,6 +130,25 @@ kept_within (Some at) place (Some xs) (Some ys) begun within keeps = rw keeps wi
 -- why a write failed
 pub other_kind : {P : Type 0} (needs_memory : Bool) → IsTrue needs_memory ↔ P → needs_memory ≡ false → ¬ P
 other_kind needs_memory tells unneeded p = true≢false (sym (tells.1 p) ∙ unneeded)
+
+-- memory did not run out
+pub unneeded : {P : Type 0} (needs_memory : Bool) → IsTrue needs_memory ↔ P → ¬ P → needs_memory ≡ false
+unneeded true tells other = absurd (other (tells.0 refl))
+unneeded false tells other = refl
+
+-- an opener that does not know the files did not know them before
+pub unknown_before : (path : FileName) (f m : Option Files) → MayEmpty path f m → m ≡ None → f ≡ None
+unknown_before path None m may unknown = refl
+unknown_before path (Some old) None may unknown = absurd may
+unknown_before path (Some old) (Some mid) may unknown = absurd cc
+
+-- the error of a file that is not created or written
+pub device_blamed : (files : Option Files) (error : Error) → NeedsMemory files error → BlamesDevice files error
+device_blamed None error other = λ _. other
+device_blamed (Some at) error memory = λ unknown. absurd cc
+
+pub device_blamed_after : (path : FileName) (f m : Option Files) (error : Error) → MayEmpty path f m → NeedsMemory f error → BlamesDevice m error
+device_blamed_after path f m error may memory = λ unknown. device_blamed f error memory (unknown_before path f m may unknown)
 
 pub filled_same : (f m : Option Files) (limit place : ℕ) (error : Error) → SameFiles f m → limit ≡ place → IsUnwritten m limit (Some []) error
     → error_kind error ≢ kind.OutOfMemory → IsFilled place (held_by f None)

@@ -5,7 +5,8 @@ ghost use Rattle.std.specs.IoError.{error_kind};
 ghost use Rattle.std.specs.Option.{ForSome};
 ghost use Rattle.std.specs.Io.KnownBytes.{WriteAppends};
 ghost use Rattle.plist_convert.specs.Files.{FileName, Files};
-ghost use Rattle.plist_convert.specs.Opens.{HasWritten, IsFilled, IsUntouched, IsUnwritten};
+ghost use Rattle.plist_convert.specs.Opens.{BlamesDevice, HasWritten, IsFilled, IsUntouched};
+ghost use Rattle.plist_convert.specs.Opens.{IsUnwritten};
 ghost use Rattle.plist_convert.specs.Opens.{IsWithin, MayEmpty, StaysWithin, is_begun};
 ghost use Rattle.plist_convert.specs.Opens.{taken_by, written_of};
 ghost use Rattle.plist_convert.specs.OneProof.{IsWithin-prop, MayEmpty-prop, full-prop};
@@ -65,6 +66,7 @@ pub(crate) struct CreatedFile<'o, 'p, O: Opens, K: KnownTarget> {
         (taken_by O.Writer.contents K.files created) } by { IsWithin-prop _ _ },
     ghost full: { 0 < failures → needs_memory ≡ false → IsFilled K.limit
         (taken_by O.Writer.contents K.files created) } by { full-prop _ _ },
+    ghost memory: { O.files opener.now ≡ None → needs_memory ≡ false },
 }
 
 impl<'o, 'p, O: Opens, K: KnownTarget> CreatedFile<'o, 'p, O, K> {
@@ -160,6 +162,7 @@ fn begin<'p, O: Opens>(
     ensures limit { O.limit opener.new ≡ O.limit opener.old }
     ensures full { IfErr result (λ error. 0 < length piece.now →
         IsUnwritten (O.files opener.old) (O.limit opener.old) (Some []) error) }
+    ensures memory { IfErr result (BlamesDevice (O.files opener.new)) }
 {
     let created = opener.create(alloc, path)?;
     let mut created = created;
@@ -182,6 +185,7 @@ fn write_some<O: Opens>(opener: &O, writer: &mut O::Writer, piece: &[u8]) -> io:
     ensures full { IfErr result (λ error. 0 < length piece.now →
         IsUnwritten (O.files opener.now) (O.limit opener.now) (O.Writer.contents writer.old)
         error) }
+    ensures memory { IfErr result (BlamesDevice (O.files opener.now)) }
 {
     match opener.append(writer, piece)? {
         0 => Err(io::Error::from(ErrorKind::WriteZero)),

@@ -1,6 +1,7 @@
 //! Storage for files.
 ghost use Rattle.std.specs.Prelude.{◌≡◌, ℕ, Option};
 ghost use Rattle.plist_forms.specs.Load.{octets_or};
+ghost use Rattle.plist_convert.specs.FileDisk.{told};
 ghost use Rattle.plist_convert.specs.Files.{CountsFailure, Files, LoadsFile, Stores};
 
 use plist_forms::{Fault, Form};
@@ -69,12 +70,17 @@ pub trait Disk {
         ensures { result ≡ failures self.now };
 }
 
-/// Returns the count of failures after a file was sent with this result.
-pub(crate) fn failures_after(failures: u64, sent: &Result<u64, Fault>) -> u64
-    ensures { CountsFailure failures result sent.now }
+/// Returns the count of failures after a file was sent with this result. If memory ran out for the
+/// file, the device has not failed.
+pub(crate) fn failures_after(
+    failures: u64,
+    sent: &Result<u64, Fault>,
+    needs_memory: bool,
+) -> u64
+    ensures { CountsFailure failures result (told needs_memory sent.now) }
 {
     match sent {
-        Err(Fault::WriteFailed { .. }) => failures.saturating_add(1),
+        Err(Fault::WriteFailed { .. }) if !needs_memory => failures.saturating_add(1),
         _ => failures,
     }
 }

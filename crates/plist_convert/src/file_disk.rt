@@ -113,9 +113,8 @@ impl<O: Steady, H: BuildHasher + Copy> Disk for FileDisk<O, H> {
             form,
         );
         settle(&mut self.opener, alloc, created)?;
-        let stored = tell(sent, needs_memory);
-        self.failures = failures_after(self.failures, &stored);
-        stored
+        self.failures = failures_after(self.failures, &sent, needs_memory);
+        tell(sent, needs_memory)
     }
 
     fn failures(&self) -> u64 {
@@ -194,6 +193,7 @@ fn write_target<'p, O: Opens, H: BuildHasher + Copy, K: KnownTarget>(
         IfSome (O.files opener.old) (λ _. count ≤ O.limit opener.old)) }
     ensures full { result.2 ≡ false → IfErr result.1 (λ fault. IfSome (O.files opener.old)
         (λ _. IsFullAt form octets.items (O.limit opener.old) fault)) }
+    ensures memory { O.files opener.new ≡ None → result.2 ≡ false }
 {
     let mut file: CreatedFile<O, K> = CreatedFile::new(alloc, opener, target.path);
     let sent = convert_octets(alloc, hasher, octets, &mut file, form);

@@ -42,12 +42,18 @@ impl<'a, R: Files> Opens for HostFiles<'a, R> {
     }
 
     fn create<'p>(&mut self, _alloc: Global, path: &'p str) -> io::Result<Created<'p, R::File>> {
-        let writer = fs::create(self.rt, path)?;
-        Ok(Created { path, writer })
+        match fs::create(self.rt, path) {
+            Ok(writer) => Ok(Created { path, writer }),
+            // A file of the host that cannot be created or written is 51, like 50 above.
+            Err(_) => Err(io::Error::from(ErrorKind::Other)),
+        }
     }
 
     fn append(&self, writer: &mut R::File, piece: &[u8]) -> io::Result<usize> {
-        writer.write(piece)
+        match writer.write(piece) {
+            Ok(taken) => Ok(taken),
+            Err(_) => Err(io::Error::from(ErrorKind::Other)),
+        }
     }
 
     fn keep(&mut self, _alloc: Global, created: Created<'_, R::File>) -> Result<(), AllocError>

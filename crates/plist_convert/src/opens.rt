@@ -43,8 +43,8 @@ pub trait Opens {
         ensures missing { IfErr result (IsUnopened (files self.now) path.now) };
 
     /// Creates or empties the file at the path, to write it from its start. If that fails, the file
-    /// is unchanged or empty. No other file changes. If the opener knows the files, it fails only
-    /// if out of memory.
+    /// is unchanged or empty. No other file changes. The error is out of memory if the opener knows
+    /// the files, and otherwise another.
     fn create<'p>(&mut self, alloc: Global, path: &'p str) -> io::Result<Created<'p, Self::Writer>>
         ensures path { IfOk result (λ created. created.path.now ≡ path.entry.now) }
         ensures new { IfOk result (λ created.
@@ -57,8 +57,8 @@ pub trait Opens {
         ensures memory { IfErr result (NeedsMemory (files self.old)) };
 
     /// Appends the start of `piece` to a created file and returns the number of bytes appended. If
-    /// the opener knows the files, that is 0 only for an empty piece or a file of the maximum size,
-    /// and it fails only if out of memory.
+    /// the opener knows the files, that is 0 only for an empty piece or a file of the maximum size.
+    /// The error is as for `create`.
     fn append(&self, writer: &mut Self::Writer, piece: &[u8]) -> io::Result<usize>
         ensures within { WritesAtMost result piece.now }
         ensures octets { WriteAppends (Self.Writer.contents writer.old)

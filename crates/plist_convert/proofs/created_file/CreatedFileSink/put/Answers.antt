@@ -3,7 +3,7 @@ use Rattle.std.specs.Prelude.{◌<◌, length}
 use Rattle.std.proofs.lemmas.Bool.Decides.{nat_tests}
 use Rattle.plist_convert.specs.Opens.{is_begun}
 use Rattle.plist_convert.proofs.Created.{begun_after, same_emptied}
-use Rattle.plist_convert.proofs.Limits.{filled_after, filled_same, kept_begun, kept_within, other_kind, within_same}
+use Rattle.plist_convert.proofs.Limits.{filled_after, filled_same, kept_begun, kept_within, other_kind, unknown_before, unneeded, within_same}
 use Rattle.plist_convert.proofs.created_file.CreatedFileSink.put.Goals as goal
 
 pub invariant_of-self-in-Err : goal.invariant_of-self-in-Err
@@ -24,6 +24,7 @@ invariant_of-self-in-Err g c =
       within = kept_within _ _ _ _ begun (rw c.in-Some.is at old.within) keeps;
       full = λ _ no. filled_after _ _ _ _ _ _ _ c.in-Err.error old.emptied old.limited begun keeps (c.in-Err.ensures.full some)
           (other_kind c.is_out_of_memory-self.result c.is_out_of_memory-self.ensures no);
+      memory = λ unknown. unneeded c.is_out_of_memory-self.result c.is_out_of_memory-self.ensures (c.in-Err.ensures.memory unknown);
     }
 
 pub invariant_of-self-in-Ok-begin : goal.invariant_of-self-in-Ok-begin
@@ -41,6 +42,7 @@ invariant_of-self-in-Ok-begin g c =
       limited = c.begin.ensures.limit ∙ old.limited;
       within = within_same _ _ _ _ _ same old.limited has.fits;
       full = λ failed. absurd (omega (arith, failed));
+      memory = λ unknown. old.memory (unknown_before _ _ _ c.begin.ensures.emptied unknown);
     }
 
 pub invariant_of-self-in-Err-begin : goal.invariant_of-self-in-Err-begin
@@ -59,4 +61,5 @@ invariant_of-self-in-Err-begin g c =
       within = old.within;
       full = λ _ no. rw c.in-None.is (filled_same _ _ _ _ c.in-Err-begin.error same old.limited (c.in-Err-begin.ensures.full some)
           (other_kind c.is_out_of_memory-self-in-Err-begin.result c.is_out_of_memory-self-in-Err-begin.ensures no));
+      memory = λ unknown. unneeded c.is_out_of_memory-self-in-Err-begin.result c.is_out_of_memory-self-in-Err-begin.ensures (c.in-Err-begin.ensures.memory unknown);
     }

@@ -18,15 +18,15 @@ pub returns-clause-stores : goal.returns-clause-stores
 returns-clause-stores g c =
     let sent = c.write_target-created.result.1 in
     let needs_memory = c.write_target-created.result.2 in
-    rw c.tell-stored.ensures (told_stored c.args.form c.args.octets.items _ _ _ _ c.args.path.now sent needs_memory
+    rw c.tell.ensures (told_stored c.args.form c.args.octets.items _ _ _ _ c.args.path.now sent needs_memory
     (λ x counts. settled g.O.Writer.Write.contents _ _ _ _ _ _ x _ _ sent c.write_target-created.ensures.placed c.write_target-created.ensures.creates
-    c.in_ok-settle.ensures.settles counts) (rw c.tell-stored.ensures at c.failures_after-self.ensures))
+    c.in_ok-settle.ensures.settles counts) c.failures_after-self.ensures)
 
 pub returns-clause-fits : goal.returns-clause-fits
 returns-clause-fits g c =
-    rw c.tell-stored.ensures (told_fits _ _ c.write_target-created.result.1 c.write_target-created.result.2 c.write_target-created.ensures.fits)
+    rw c.tell.ensures (told_fits _ _ c.write_target-created.result.1 c.write_target-created.result.2 c.write_target-created.ensures.fits)
 
 pub returns-clause-full : goal.returns-clause-full
 returns-clause-full g c =
-    rw c.tell-stored.ensures (told_full c.args.form c.args.octets.items _ _ c.write_target-created.result.1 c.write_target-created.result.2
+    rw c.tell.ensures (told_full c.args.form c.args.octets.items _ _ c.write_target-created.result.1 c.write_target-created.result.2
     c.write_target-created.ensures.full)
