@@ -64,12 +64,13 @@ IsRun words input rest before after status =
     IsObeyed words input rest before after status
     ⊎ IsRefusedRun words input rest before after status
 
--- A run on the files of the host, whose contents are unknown, with this standard input. Its devices
--- and streams may fail any number of times.
-abbrev pub IsHostRun : List Text → Option (List ℕ) → Option (List ℕ) → Option (List ℕ) → ℕ → Type 0
-IsHostRun words to_come printed prints status =
-    (disk_failed : ℕ) × (print_failed : ℕ) × (rest : Input)
-    × IsRun words (input_of to_come 0) rest (state None 0 printed 0)
+-- A run on the files of the host, whose contents are unknown, with this standard input, of which
+-- the rest is left. Its devices and streams may fail any number of times.
+abbrev pub IsHostRun : List Text → Option (List ℕ) → Option (List ℕ) → Option (List ℕ)
+    → Option (List ℕ) → ℕ → Type 0
+IsHostRun words to_come rest printed prints status =
+    (take_failed : ℕ) × (disk_failed : ℕ) × (print_failed : ℕ)
+    × IsRun words (input_of to_come 0) (input_of rest take_failed) (state None 0 printed 0)
     (state None disk_failed prints print_failed) status
 
 -- A device failed during the call: the count of failures of the input, of the files or of the

@@ -14,7 +14,7 @@ use crate::printing::explain;
 use crate::random_keys::random_state;
 use crate::reading::read_words;
 use crate::request::Request;
-use plist_devices::{ReaderSource, Sink, Source, Stream};
+use plist_devices::{InputStream, Sink, Source, Stream};
 use plist_value::FixedHasher;
 use std::alloc::Global;
 use std::hash::BuildHasher;
@@ -31,8 +31,9 @@ use std::rt::Files;
 /// - 4: a file cannot be read or written, or a line cannot be printed;
 /// - 5: out of memory.
 ///
-/// `input` and `output` are standard input and standard output. All results, refusals and messages
-/// of `clap` are printed to `output`.
+/// `input` and `output` are standard input and standard output. Without a command all of the input
+/// is read, with a command nothing. All results, refusals and messages of `clap` are printed to
+/// `output`.
 pub fn run<R: Files, I: Read, O: Write>(
     rt: &R,
     alloc: Global,
@@ -41,7 +42,7 @@ pub fn run<R: Files, I: Read, O: Write>(
     output: &mut O,
 ) -> u8
     ensures { IsHostRun (map (λ word. word.now) words.now) (I.remaining input.old)
-        (O.contents output.old) (O.contents output.new) result }
+        (I.remaining input.new) (O.contents output.old) (O.contents output.new) result }
 {
     run_last(rt, alloc, FixedHasher::new(), words, input, output)
 }
@@ -58,7 +59,7 @@ pub fn run_to_end<R: Files + RandomSource, I: Read, O: Write>(
     output: &mut O,
 ) -> u8
     ensures { IsHostRun (map (λ word. word.now) words.now) (I.remaining input.old)
-        (O.contents output.old) (O.contents output.new) result }
+        (I.remaining input.new) (O.contents output.old) (O.contents output.new) result }
 {
     match random_state(rt) {
         Ok(hasher) => run_last(rt, alloc, hasher, words, input, output),
@@ -76,10 +77,10 @@ fn run_last<H: BuildHasher + Copy, R: Files, I: Read, O: Write>(
     output: &mut O,
 ) -> u8
     ensures { IsHostRun (map (λ word. word.now) words.now) (I.remaining input.old)
-        (O.contents output.old) (O.contents output.new) result }
+        (I.remaining input.new) (O.contents output.old) (O.contents output.new) result }
 {
     let mut disk = HostDisk::new(rt, hasher);
-    let mut source = ReaderSource::new(input);
+    let mut source = InputStream::new(input);
     let mut sink = Stream::new(output);
     run_on(alloc, hasher, &mut disk, words, &mut source, &mut sink)
 }
@@ -107,6 +108,7 @@ pub fn run_on<H: BuildHasher + Copy, D: Disk, S: Source, W: Sink>(
         (W.taken output.new) (W.failures output.new))
         result }
     ensures same { W.device output.new ≡ W.device output.old }
+    ensures device { S.device input.new ≡ S.device input.old }
     // The exit status is 4 only if a device failed.
     ensures blamed { result ≡ 4 → DeviceFailed
         (input_of (S.remaining input.old) (S.failures input.old))
@@ -137,6 +139,7 @@ fn perform<H: BuildHasher + Copy, D: Disk, S: Source, W: Sink>(
         (W.taken output.new) (W.failures output.new))
         result }
     ensures same { W.device output.new ≡ W.device output.old }
+    ensures device { S.device input.new ≡ S.device input.old }
 {
     match read_words(alloc, words) {
         Ok(request) => execute(alloc, hasher, disk, request, input, output),
@@ -162,6 +165,7 @@ fn execute<H: BuildHasher + Copy, D: Disk, S: Source, W: Sink>(
         (W.taken output.new) (W.failures output.new))
         result }
     ensures same { W.device output.new ≡ W.device output.old }
+    ensures device { S.device input.new ≡ S.device input.old }
 {
     match request {
         Request::Filter => filter(alloc, hasher, input, output),

@@ -27,6 +27,7 @@ pub(crate) fn filter<H: BuildHasher + Copy, S: Source, W: Sink>(
         (state files disk (W.taken output.old) (W.failures output.old))
         (state files disk (W.taken output.new) (W.failures output.new)) result }
     ensures same { W.device output.new ≡ W.device output.old }
+    ensures device { S.device input.new ≡ S.device input.old }
 {
     match convert_with_hasher(alloc, hasher, input, output, Form::Binary1) {
         Ok(_) => Status::Done.code(),

@@ -46,6 +46,7 @@ pub fn convert<S: Source, W: Sink>(
     ensures same { W.device to.new ≡ W.device to.old }
     ensures loads { Loads (S.remaining from.old) (S.remaining from.new)
         (S.failures from.old) (S.failures from.new) result }
+    ensures device { S.device from.new ≡ S.device from.old }
 {
     convert_with_hasher(alloc, FixedHasher::new(), from, to, form)
 }
@@ -70,6 +71,7 @@ pub fn convert_with_hasher<H: BuildHasher + Copy, S: Source, W: Sink>(
     ensures same { W.device to.new ≡ W.device to.old }
     ensures loads { Loads (S.remaining from.old) (S.remaining from.new)
         (S.failures from.old) (S.failures from.new) result }
+    ensures device { S.device from.new ≡ S.device from.old }
 {
     let octets = load(alloc, from)?;
     convert_octets(alloc, hasher, octets, to, form)

@@ -29,6 +29,7 @@ pub fn load<S: Source>(alloc: Global, from: &mut S) -> Result<Vec<u8>, Fault>
     ensures loads { Loads (S.remaining from.old) (S.remaining from.new)
         (S.failures from.old) (S.failures from.new) result }
     ensures faults { IfErr result IsLoadFault }
+    ensures device { S.device from.new ≡ S.device from.old }
 {
     match load_unless(alloc, from, &[])? {
         Some(octets) => Ok(octets),
@@ -54,6 +55,7 @@ pub fn load_unless<S: Source>(
     ensures loads { Loads (S.remaining from.old) (S.remaining from.new)
         (S.failures from.old) (S.failures from.new) result }
     ensures faults { IfErr result IsLoadFault }
+    ensures device { S.device from.new ≡ S.device from.old }
 {
     let mut taken = Taken::Known(0);
     let mut buffer = [0u8; TAKE_SIZE];

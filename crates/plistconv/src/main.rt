@@ -2,9 +2,10 @@
 //! standard output.
 #![tactic(auto)]
 
-ghost use Rattle.std.specs.Prelude.{◌≡◌, ◌≢◌, ◌⊎◌, ℕ, IfErr, IfOk, None, map, string_bytes};
+ghost use Rattle.std.specs.Prelude.{◌≡◌, ◌≢◌, ◌⊎◌, ℕ, IfErr, IfOk, List, map, string_bytes};
 ghost use Rattle.std.specs.IoError.{error_kind};
 ghost use Rattle.plist_convert.specs.Ending.{Prints, no_memory};
+ghost use Rattle.plist_convert.specs.Explaining.{IsExplanation};
 ghost use Rattle.plist_convert.specs.Program.{IsHostRun};
 
 use plist_convert::{Status, Stream, put_all, run_to_end};
@@ -14,7 +15,8 @@ use std::process::ExitCode;
 use std::{env, io};
 
 fn main(rt: HostRuntime) -> ExitCode {
-    ExitCode::from(status(&rt, arguments(&rt)))
+    let arguments = arguments(&rt);
+    ExitCode::from(status(&rt, arguments, &mut rt.stdin(), &mut rt.stdout()))
 }
 
 fn arguments(rt: &HostRuntime) -> io::Result<Vec<String>> {
@@ -23,22 +25,36 @@ fn arguments(rt: &HostRuntime) -> io::Result<Vec<String>> {
 
 /// Runs the program on these arguments and returns its exit status. Prints a line if they could not
 /// be read, or if out of memory for a copy of their references.
-fn status(rt: &HostRuntime, arguments: io::Result<Vec<String>>) -> u8
+fn status<I: Read, O: Write>(
+    rt: &HostRuntime,
+    arguments: io::Result<Vec<String>>,
+    input: &mut I,
+    output: &mut O,
+) -> u8
     ensures run { IfOk arguments (λ owned.
-        IsHostRun (map (λ word. string_bytes word) owned.items) None None None result
-        ⊎ ((failures : ℕ) × Prints None None 0 failures no_memory result)) }
-    ensures words { IfErr arguments (λ error.
-        error_kind error ≢ ErrorKind.OutOfMemory → (result ≡ 3) ⊎ (result ≡ 4)) }
+        IsHostRun (map (λ word. string_bytes word) owned.items)
+        (I.remaining input.old) (I.remaining input.new)
+        (O.contents output.old) (O.contents output.new) result
+        ⊎ ((I.remaining input.new ≡ I.remaining input.old)
+        × ((failures : ℕ) × Prints (O.contents output.old) (O.contents output.new) 0 failures
+        no_memory result))) }
+    ensures words { IfErr arguments (λ error. error_kind error ≢ ErrorKind.OutOfMemory
+        → (text : List ℕ) × IsExplanation 3 text × ((failures : ℕ)
+        × Prints (O.contents output.old) (O.contents output.new) 0 failures
+        (record { text = text; status = 3 }) result)) }
+    ensures memory { IfErr arguments (λ error. error_kind error ≡ ErrorKind.OutOfMemory
+        → ((failures : ℕ) × Prints (O.contents output.old) (O.contents output.new) 0 failures
+        no_memory result)) }
+    ensures unread { IfErr arguments (λ _. I.remaining input.new ≡ I.remaining input.old) }
 {
-    let mut output = rt.stdout();
     match arguments {
-        Ok(arguments) => obey(rt, arguments.as_slice(), &mut rt.stdin(), &mut output),
+        Ok(arguments) => obey(rt, arguments.as_slice(), input, output),
         Err(error) if error.kind() != ErrorKind::OutOfMemory => refuse(
-            &mut output,
+            output,
             "error: a word is not UTF-8\n",
             Status::BadWords.code(),
         ),
-        Err(_) => ended(&mut output, Err(AllocError)),
+        Err(_) => ended(output, Err(AllocError)),
     }
 }
 
@@ -51,9 +67,11 @@ fn obey<I: Read, O: Write>(
     output: &mut O,
 ) -> u8
     ensures { IsHostRun (map (λ word. string_bytes word) arguments.now)
-        (I.remaining input.old) (O.contents output.old) (O.contents output.new) result
-        ⊎ ((failures : ℕ) × Prints (O.contents output.old) (O.contents output.new) 0 failures
-        no_memory result) }
+        (I.remaining input.old) (I.remaining input.new)
+        (O.contents output.old) (O.contents output.new) result
+        ⊎ ((I.remaining input.new ≡ I.remaining input.old)
+        × ((failures : ℕ) × Prints (O.contents output.old) (O.contents output.new) 0 failures
+        no_memory result)) }
 {
     match answer(rt, arguments, input, output) {
         Ok(status) => status,
@@ -69,7 +87,9 @@ fn answer<I: Read, O: Write>(
     output: &mut O,
 ) -> Result<u8, AllocError>
     ensures run { IfOk result (λ status. IsHostRun (map (λ word. string_bytes word) arguments.now)
-        (I.remaining input.old) (O.contents output.old) (O.contents output.new) status) }
+        (I.remaining input.old) (I.remaining input.new)
+        (O.contents output.old) (O.contents output.new) status) }
+    ensures unread { IfErr result (λ _. I.remaining input.new ≡ I.remaining input.old) }
     ensures nothing { IfErr result (λ _. O.contents output.new ≡ O.contents output.old) }
 {
     let alloc = rt.alloc();

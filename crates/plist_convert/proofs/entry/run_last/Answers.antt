@@ -4,5 +4,5 @@ use Rattle.plist_convert.proofs.entry.run_last.Goals as goal
 
 pub returns : goal.returns
 returns g c =
-    begun (map (λ word. word.now) c.args.words.now) _ _ _ _ _ _ _ _ _ _ _ _ _
-    c.new-source.ensures.octets c.new-source.ensures.failures c.new-disk.ensures c.new-sink.ensures.taken c.new-sink.ensures.failures (search rules) c.run_on.ensures.run
+    begun (map (λ word. word.now) c.args.words.now) _ _ _ _ _ _ _ _ _ _ _ _ _ _ _
+    c.new-source.ensures.octets c.new-source.ensures.failures (search rules) c.new-disk.ensures c.new-sink.ensures.taken c.new-sink.ensures.failures (search rules) c.run_on.ensures.run

@@ -6,7 +6,7 @@ use Rattle.plist_forms.proofs.loading.load_unless.Goals as goal
 pub returns-then-len-given-gt-MAX_INPUT-clause-loads :
     goal.returns-then-len-given-gt-MAX_INPUT-clause-loads
 returns-then-len-given-gt-MAX_INPUT-clause-loads g c =
-    let more = taken-more _ _ _ _ _ _ _ _ c.takes.invariant.taken c.in_ok-given.ensures in
+    let more = taken-more _ _ _ _ _ _ _ _ c.takes.invariant.taken c.in_ok-given.ensures.take in
     let long = c.len.ensures c.args.known.now c.takes.invariant.beside in
     record {
       failed = search rules;
@@ -21,7 +21,7 @@ returns-then-len-given-gt-MAX_INPUT-clause-loads g c =
 
 pub returns-in_err-taken-clause-loads : goal.returns-in_err-taken-clause-loads
 returns-in_err-taken-clause-loads g c =
-    let more = taken-more _ _ _ _ _ _ _ _ c.takes.invariant.taken c.in_ok-given.ensures in
+    let more = taken-more _ _ _ _ _ _ _ _ c.takes.invariant.taken c.in_ok-given.ensures.take in
     let long = c.len.ensures c.args.known.now c.takes.invariant.beside in
     record {
       failed = search rules;

@@ -10,6 +10,7 @@ invariant-takes g l = record {
   beside : ComparesWith l.known l.taken;
   within : length (octets_taken l.known l.taken) ≤ MAX_INPUT;
   kept : g.S.Source.failures l.from ≡ g.S.Source.failures l.fn.from;
+  device : g.S.Source.device l.from ≡ g.S.Source.device l.fn.from;
 }
 
 abbrev pub decreases-takes : goal.decreases-takes
