@@ -293,7 +293,7 @@ check_blamed named paths before after status run four =
 
 lint_blamed : (paths : List FileName) (before after : State) (status : ℕ) → IsLintRun paths before after status → status ≡ 4 → Failed before after
 unfolding IsLintRun
-lint_blamed paths before after status run four = 
+lint_blamed paths before after status run four =
     each_blamed IsLinted paths before before after 0 status linted_count linted_blamed (λ later failed. failed) (λ four. absurd (no_0 four)) run four
 
 same_blamed : (first second : FileName) (before after : State) (status : ℕ) → IsSameRun first second before after status → status ≡ 4 → Failed before after

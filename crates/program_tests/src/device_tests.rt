@@ -200,7 +200,7 @@ fn ran(
     octets: &[u8],
     is_last: bool,
 ) -> Result<(u8, Vec<u8>), Fail> {
-    let host = StrictHost(rt);
+    let host = StrictHost::over(rt);
     let mut input = Strict::over(octets);
     let mut output = Strict::over(Vec::new(rt.alloc()));
     let status = if is_last {

@@ -39,7 +39,13 @@ fn status_at(rt: &HostRuntime, words: &[&str], running: Running) -> u8 {
         Running::On => status_of(rt, words, &mut output),
         Running::ToEnd => run_to_end(rt, rt.alloc(), words, &mut input, &mut output),
         Running::ToEndStrictly => {
-            run_to_end(&StrictHost(rt), rt.alloc(), words, &mut input, &mut output)
+            run_to_end(
+                &StrictHost::over(rt),
+                rt.alloc(),
+                words,
+                &mut input,
+                &mut output,
+            )
         }
     }
 }

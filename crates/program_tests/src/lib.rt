@@ -11,7 +11,11 @@ mod ending_tests;
 #[cfg(test)]
 mod explain_tests;
 #[cfg(test)]
+mod faulty_tests;
+#[cfg(test)]
 mod growths;
+#[cfg(test)]
+mod hasher_tests;
 #[cfg(test)]
 mod help_tests;
 #[cfg(test)]

@@ -1,6 +1,8 @@
-//! Devices that are used in one way alone, and a host whose files are such.
+//! Devices that are used in one way alone or fail once, and a host whose files are such.
+ghost use Rattle.std.specs.Prelude.{◌≤◌, IfOk};
 
 use std::alloc::Allocator;
+use std::cell::Cell;
 use std::fs::{Files, Metadata, OpenFile, OpenOptions};
 use std::io::{self, ErrorKind, Read, Seek, SeekFrom, Write};
 use std::random::RandomSource;
@@ -8,18 +10,70 @@ use std::random::RandomSource;
 /// The number of bytes that a take asks for.
 pub(crate) const TAKE: usize = 4096;
 
+/// How the reads and writes of a device end.
+#[derive(Clone, Copy)]
+pub(crate) struct Transfers<'a> {
+    /// The most bytes that one of them moves.
+    pub(crate) most: usize,
+    /// The number of the one that fails, counted from 1, and how.
+    pub(crate) failing: Option<(usize, ErrorKind)>,
+    /// Counts the bytes that were read.
+    pub(crate) given: Option<&'a Cell<usize>>,
+}
+
+impl Transfers<'_> {
+    /// Transfers that all end well.
+    pub(crate) const GOOD: Transfers<'static> = Transfers {
+        most: usize::MAX,
+        failing: None,
+        given: None,
+    };
+
+    /// Returns transfers of which one fails.
+    pub(crate) fn failing(number: usize, kind: ErrorKind) -> Transfers<'static> {
+        Transfers {
+            most: usize::MAX,
+            failing: Some((number, kind)),
+            given: None,
+        }
+    }
+}
+
 /// A device whose reads fail if they ask for more than [`TAKE`] bytes, and that is never to be
 /// flushed or synchronised: it fails then, and has one more byte.
 #[derive(Drop)]
-pub(crate) struct Strict<D> {
+pub(crate) struct Strict<'a, D> {
     pub(crate) device: D,
     pub(crate) longest: usize,
+    transfers: Transfers<'a>,
+    made: usize,
 }
 
-impl<D> Strict<D> {
+impl<'a, D> Strict<'a, D> {
     /// Returns the device, from which nothing was read.
-    pub(crate) fn over(device: D) -> Strict<D> {
-        Strict { device, longest: 0 }
+    pub(crate) fn over(device: D) -> Strict<'a, D> {
+        Strict::with(device, Transfers::GOOD)
+    }
+
+    /// Returns the device with these transfers.
+    pub(crate) fn with(device: D, transfers: Transfers<'a>) -> Strict<'a, D> {
+        Strict {
+            device,
+            longest: 0,
+            transfers,
+            made: 0,
+        }
+    }
+
+    // Begins a transfer of up to `count` bytes. Returns how many it may move.
+    fn begin(&mut self, count: usize) -> io::Result<usize>
+        ensures { IfOk result (λ most. most ≤ count) }
+    {
+        self.made = self.made.saturating_add(1);
+        match self.transfers.failing {
+            Some((number, kind)) if number == self.made => Err(io::Error::from(kind)),
+            _ => Ok(self.transfers.most.min(count)),
+        }
     }
 }
 
@@ -27,19 +81,25 @@ fn refused() -> io::Error {
     io::Error::from(ErrorKind::Other)
 }
 
-impl<D: Read> Read for Strict<D> {
+impl<D: Read> Read for Strict<'_, D> {
     fn read(&mut self, buf: &mut [u8]) -> io::Result<usize> {
         self.longest = self.longest.max(buf.len());
         if self.longest > TAKE {
             return Err(refused());
         }
-        self.device.read(buf)
+        let most = self.begin(buf.len())?;
+        let given = self.device.read(&mut buf[..most])?;
+        if let Some(all) = self.transfers.given {
+            all.set(all.get().saturating_add(given));
+        }
+        Ok(given)
     }
 }
 
-impl<D: Write> Write for Strict<D> {
+impl<D: Write> Write for Strict<'_, D> {
     fn write(&mut self, buf: &[u8]) -> io::Result<usize> {
-        self.device.write(buf)
+        let most = self.begin(buf.len())?;
+        self.device.write(&buf[..most])
     }
 
     fn flush(&mut self) -> io::Result<()> {
@@ -48,13 +108,13 @@ impl<D: Write> Write for Strict<D> {
     }
 }
 
-impl<D: Seek> Seek for Strict<D> {
+impl<D: Seek> Seek for Strict<'_, D> {
     fn seek(&mut self, to: SeekFrom) -> io::Result<u64> {
         self.device.seek(to)
     }
 }
 
-impl<D: OpenFile> OpenFile for Strict<D> {
+impl<D: OpenFile> OpenFile for Strict<'_, D> {
     fn metadata(&self) -> io::Result<Metadata> {
         self.device.metadata()
     }
@@ -74,7 +134,31 @@ impl<D: OpenFile> OpenFile for Strict<D> {
 
 /// The files of the host, each of them strict, without a source of random bytes.
 #[derive(Drop)]
-pub(crate) struct StrictHost<'a>(pub(crate) &'a HostRuntime);
+pub(crate) struct StrictHost<'a> {
+    pub(crate) rt: &'a HostRuntime,
+    /// The transfers of files that are opened to be read, and of those that are created.
+    pub(crate) read: Transfers<'a>,
+    pub(crate) written: Transfers<'a>,
+    /// How each attempt to open a file to be read fails, or to create one.
+    pub(crate) unopened: Option<ErrorKind>,
+    pub(crate) uncreated: Option<ErrorKind>,
+    /// Whether a relative path is removed once it is open to be read.
+    pub(crate) removes: bool,
+}
+
+impl<'a> StrictHost<'a> {
+    /// Returns a host whose files do not fail.
+    pub(crate) fn over(rt: &'a HostRuntime) -> StrictHost<'a> {
+        StrictHost {
+            rt,
+            read: Transfers::GOOD,
+            written: Transfers::GOOD,
+            unopened: None,
+            uncreated: None,
+            removes: false,
+        }
+    }
+}
 
 impl RandomSource for StrictHost<'_> {
     fn fill_bytes(&self, _buf: &mut [u8]) -> io::Result<()> {
@@ -82,48 +166,60 @@ impl RandomSource for StrictHost<'_> {
     }
 }
 
-impl Files for StrictHost<'_> {
-    type File = Strict<<HostRuntime as Files>::File>;
+impl<'a> Files for StrictHost<'a> {
+    type File = Strict<'a, <HostRuntime as Files>::File>;
 
     type Dir = <HostRuntime as Files>::Dir;
 
     fn open_file(&self, how: &OpenOptions, path: &str) -> io::Result<Self::File> {
-        Ok(Strict::over(self.0.open_file(how, path)?))
+        let (fails, transfers) = if how.asks_write() {
+            (self.uncreated, self.written)
+        } else {
+            (self.unopened, self.read)
+        };
+        if let Some(kind) = fails {
+            return Err(io::Error::from(kind));
+        }
+        let file = self.rt.open_file(how, path)?;
+        if self.removes && !how.asks_write() && !path.starts_with('/') {
+            Files::remove_file(self.rt, path)?;
+        }
+        Ok(Strict::with(file, transfers))
     }
 
     fn open_dir(&self, path: &str) -> io::Result<Self::Dir> {
-        self.0.open_dir(path)
+        self.rt.open_dir(path)
     }
 
     fn metadata(&self, path: &str) -> io::Result<Metadata> {
-        Files::metadata(self.0, path)
+        Files::metadata(self.rt, path)
     }
 
     fn symlink_metadata(&self, path: &str) -> io::Result<Metadata> {
-        Files::symlink_metadata(self.0, path)
+        Files::symlink_metadata(self.rt, path)
     }
 
     fn copy(&self, from: &str, to: &str) -> io::Result<u64> {
-        Files::copy(self.0, from, to)
+        Files::copy(self.rt, from, to)
     }
 
     fn rename(&self, from: &str, to: &str) -> io::Result<()> {
-        Files::rename(self.0, from, to)
+        Files::rename(self.rt, from, to)
     }
 
     fn remove_file(&self, path: &str) -> io::Result<()> {
-        Files::remove_file(self.0, path)
+        Files::remove_file(self.rt, path)
     }
 
     fn create_dir(&self, path: &str) -> io::Result<()> {
-        Files::create_dir(self.0, path)
+        Files::create_dir(self.rt, path)
     }
 
     fn remove_dir(&self, path: &str) -> io::Result<()> {
-        Files::remove_dir(self.0, path)
+        Files::remove_dir(self.rt, path)
     }
 
     fn remove_dir_all<B: Allocator>(&self, alloc: B, path: &str) -> io::Result<()> {
-        Files::remove_dir_all(self.0, alloc, path)
+        Files::remove_dir_all(self.rt, alloc, path)
     }
 }

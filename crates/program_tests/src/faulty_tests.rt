@@ -1,0 +1,216 @@
+//! The program over files and streams that fail once, give little, or can be opened only once, and
+//! what it leaves of standard input.
+use crate::host_tests::{holds, put_files, remove_files};
+use crate::strict::{Strict, StrictHost, Transfers};
+use crate::words::{printed_of, words_of};
+use crate::worked_files::{TABLE, UNSORTED, WRITTEN_TEXT};
+use plist_convert::{run, run_to_end};
+use std::cell::Cell;
+use std::fs;
+use std::io::{ErrorKind, Read, Write};
+use std::test::Fail;
+
+// Runs the program by the call that ends with it, or by the other. Returns its exit status.
+fn ran<I: Read, O: Write>(
+    host: &StrictHost,
+    rt: &HostRuntime,
+    words: &[&str],
+    input: &mut I,
+    output: &mut O,
+    to_end: bool,
+) -> u8 {
+    if to_end {
+        run_to_end(host, rt.alloc(), words, input, output)
+    } else {
+        run(host, rt.alloc(), words, input, output)
+    }
+}
+
+// Returns whether the row has its result over the host, by both calls, and leaves standard input.
+fn is_answered(rt: &HostRuntime, host: &StrictHost, row: &str) -> Result<bool, Fail> {
+    for to_end in [false, true] {
+        put_files(rt)?;
+        let words = words_of(rt.alloc(), row)?;
+        let mut input: &[u8] = b"more\n";
+        let mut output = Vec::new(rt.alloc());
+        let status = ran(host, rt, words.as_slice(), &mut input, &mut output, to_end);
+        if printed_of(row, status) != Some(output.as_slice()) || input != b"more\n".as_slice() {
+            return Ok(false);
+        }
+    }
+    Ok(true)
+}
+
+/// A run of each command. Where two paths are given, they are different.
+const COMMANDS: [&str; 13] = [
+    "convert binary1 row2.txt old|0 ",
+    "convert openstep row2.bin old|0 ",
+    "convert binary1 twice.txt old|2 twice.txt: refused 14 DuplicateKey at octet 3\n",
+    "same row2.txt row2.bin|0 equal\n",
+    "same real4.bin real8.bin|1 different\n",
+    "lint row2.txt|0 row2.txt: OK\n",
+    "lint row2.txt row2.bin|0 row2.txt: OK\nrow2.bin: OK\n",
+    "check row2.bin|0 canonical\n",
+    "check unsorted.bin row2.bin|1 unsorted.bin: broken C5 at object 0\nrow2.bin: canonical\n",
+    "print real4.bin|0 1.0f\n",
+    "explain 014|3 error: '014' is no refusal and no rule: plistconv explain lists them\n",
+    "same row2.txt missing|4 missing: refused 50 ReadFailed\n",
+    "--version|0 plistconv 0.3.0\n",
+];
+
+/// Each path is opened once. The second time it would be missing.
+#[test]
+fn each_path_is_opened_once(rt: HostRuntime) -> Result<(), Fail> {
+    let good = StrictHost::over(&rt);
+    let once = StrictHost {
+        removes: true,
+        ..StrictHost::over(&rt)
+    };
+    for row in COMMANDS {
+        assert!(rt; is_answered(&rt, &good, row)?, "{row}");
+        assert!(rt; is_answered(&rt, &once, row)?, "{row}, once");
+    }
+    let twice = "lint row2.bin row2.bin|4 row2.bin: OK\nrow2.bin: refused 50 ReadFailed\n";
+    assert!(rt; is_answered(&rt, &once, twice)?);
+    put_files(&rt)?;
+    remove_files(&rt)
+}
+
+/// Errors of a host. No cause makes a device out of memory, and none is tried again.
+const KINDS: [ErrorKind; 3] = [
+    ErrorKind::OutOfMemory,
+    ErrorKind::Interrupted,
+    ErrorKind::Other,
+];
+
+const READS: [&str; 5] = [
+    "lint row2.bin|4 row2.bin: refused 50 ReadFailed\n",
+    "check row2.bin|4 row2.bin: refused 50 ReadFailed\n",
+    "same row2.bin row2.txt|4 row2.bin: refused 50 ReadFailed\n",
+    "print row2.bin|4 row2.bin: refused 50 ReadFailed\n",
+    "convert binary1 row2.bin old|4 row2.bin: refused 50 ReadFailed\n",
+];
+
+#[test]
+fn a_read_that_fails_once_is_50(rt: HostRuntime) -> Result<(), Fail> {
+    for kind in KINDS {
+        let unopened = StrictHost {
+            unopened: Some(kind),
+            ..StrictHost::over(&rt)
+        };
+        for row in READS {
+            assert!(rt; is_answered(&rt, &unopened, row)?, "{row}");
+            for number in [1, 2] {
+                let broken = StrictHost {
+                    read: Transfers::failing(number, kind),
+                    ..StrictHost::over(&rt)
+                };
+                assert!(rt; is_answered(&rt, &broken, row)?, "{row}, read {number}");
+            }
+            assert!(rt; holds(&rt, "old", b"old")?);
+        }
+    }
+    remove_files(&rt)
+}
+
+/// Conversions of which each write moves up to 10 bytes, and the output of each.
+const CONVERSIONS: [(&str, &[u8]); 2] = [
+    ("convert binary1 row2.txt old", TABLE),
+    ("convert openstep row2.bin old", WRITTEN_TEXT),
+];
+
+// Returns whether the run over the host is 51 after so many bytes, and leaves them in the file.
+fn is_cut(
+    rt: &HostRuntime,
+    host: &StrictHost,
+    words: &str,
+    file: &[u8],
+    sent: usize,
+) -> Result<bool, Fail> {
+    let row = format!(in rt.alloc();
+        "{words}|4 old: refused 51 WriteFailed after {sent} octets\n"
+    )?;
+    let left = if sent == 0 && host.uncreated.is_some() {
+        b"old".as_slice()
+    } else {
+        file.get(..sent).unwrap_or(file)
+    };
+    Ok(is_answered(rt, host, row.as_str())? && holds(rt, "old", left)?)
+}
+
+#[test]
+fn a_write_that_fails_once_is_51(rt: HostRuntime) -> Result<(), Fail> {
+    for kind in KINDS {
+        let uncreated = StrictHost {
+            uncreated: Some(kind),
+            ..StrictHost::over(&rt)
+        };
+        for (words, file) in CONVERSIONS {
+            assert!(rt; is_cut(&rt, &uncreated, words, file, 0)?, "{words}");
+            for number in [1, 2] {
+                let broken = StrictHost {
+                    written: Transfers {
+                        most: 10,
+                        ..Transfers::failing(number, kind)
+                    },
+                    ..StrictHost::over(&rt)
+                };
+                let sent = 10 * (number - 1);
+                assert!(rt;
+                    is_cut(&rt, &broken, words, file, sent)?,
+                    "{words}, write {number}"
+                );
+            }
+        }
+    }
+    remove_files(&rt)
+}
+
+// Converts standard input to standard output, of which transfers fail. Returns the exit status and
+// the output.
+fn filtered(rt: &HostRuntime, read: Transfers, written: Transfers, to_end: bool) -> (u8, Vec<u8>) {
+    let mut input = Strict::with(UNSORTED, read);
+    let mut output = Strict::with(Vec::new(rt.alloc()), written);
+    let host = StrictHost::over(rt);
+    let status = ran(&host, rt, &["plistconv"], &mut input, &mut output, to_end);
+    (status, output.device)
+}
+
+#[test]
+fn streams_that_fail_once(rt: HostRuntime) -> Result<(), Fail> {
+    for kind in KINDS {
+        for to_end in [false, true] {
+            let failing = Transfers::failing(1, kind);
+            let (status, output) = filtered(&rt, failing, Transfers::GOOD, to_end);
+            assert_eq!(rt; status, 4);
+            assert_eq!(rt; output.as_slice(), b"-: refused 50 ReadFailed\n".as_slice());
+            let (status, output) = filtered(&rt, Transfers::GOOD, failing, to_end);
+            assert_eq!(rt; status, 4);
+            assert_eq!(rt;
+                output.as_slice(),
+                b"-: refused 51 WriteFailed after 0 octets\n".as_slice()
+            );
+        }
+    }
+    Ok(())
+}
+
+/// Where the system gives no random bytes, the key of the hasher is read from a file, whole.
+#[test]
+fn the_key_is_read_whole(rt: HostRuntime) -> Result<(), Fail> {
+    let given = Cell::new(0);
+    let host = StrictHost {
+        read: Transfers {
+            most: 1,
+            failing: None,
+            given: Some(&given),
+        },
+        ..StrictHost::over(&rt)
+    };
+    let mut input: &[u8] = b"";
+    let mut output = Vec::new(rt.alloc());
+    let words = ["plistconv", "lint", "missing"];
+    run_to_end(&host, rt.alloc(), &words, &mut input, &mut output);
+    assert_eq!(rt; given.get(), 16);
+    Ok(())
+}
