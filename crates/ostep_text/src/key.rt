@@ -1,5 +1,7 @@
 //! Keys of dictionaries.
-ghost use Rattle.std.specs.Prelude.{◌≡◌, ◌*◌, ℕ, List, length, nat_eq};
+ghost use Rattle.std.specs.Prelude.{◌≡◌, ◌*◌, ◌-◌, ◌^◌, ◌<◌, ◌≤◌, ℕ, List, length, drop};
+ghost use Rattle.std.specs.Prelude.{nat_eq, nat_lt, IfOk};
+ghost use Rattle.std.specs.List.{list_all};
 ghost use Rattle.std.specs.Cmp.{partial_order_from_own_ties};
 ghost use Rattle.std.specs.Cmp.Lexicographic.{pointwise};
 ghost use Rattle.std.specs.Cmp.Rules.{comparing};
@@ -7,16 +9,23 @@ ghost use Rattle.std.specs.Ordering.{as_partial_cmp};
 ghost use Rattle.std.proofs.Common.{rules};
 ghost use Rattle.plist_value.specs.Plist.{AreUnits};
 ghost use Rattle.plist_value.specs.Texts.{units_of};
-ghost use Rattle.ostep_text.specs.Key.{units_in, is_short_key, number_of, key_cmp};
+ghost use Rattle.ostep_text.specs.Key.{units_in, is_short_key, packed, number_of, key_cmp};
 ghost use Rattle.ostep_text.specs.KeyOrder.{key_total, key_partial, key_ties};
 
 use crate::payloads::text_payload;
 use plist_value::{TextRef, Utf16};
+use std::alloc::{AllocError, Global};
 use std::cmp::Ordering;
 use std::marker::Model;
 
-// The largest number of units in a short key, each of them below 128.
-const MOST_SHORT: usize = 15;
+// The largest number of units in a short key, whatever they are.
+const MOST_WIDE: usize = 7;
+
+// The largest number of units in a short key, each of them below 256.
+const MOST_NARROW: usize = 15;
+
+// More than the number of any key with more than `MOST_WIDE` units.
+const WIDE: u128 = 0x2000_0000_0000_0000_0000_0000_0000_0000;
 
 // A key, with its last units as a number, by which keys are compared first. Contracts see it as the
 // list of its units.
@@ -72,6 +81,20 @@ impl<'a> Key<'a> {
         }
     }
 
+    // Returns a copy, which takes no more memory than its units need.
+    pub(crate) fn copy(&self, alloc: Global) -> Result<Key<'a>, AllocError>
+        ensures { IfOk result (λ copy. copy ≡ self.now) }
+    {
+        let text = match &self.text {
+            KeyText::Borrowed(text) => KeyText::Borrowed(*text),
+            KeyText::Owned(text) => KeyText::Owned(text.copy(alloc)?),
+        };
+        Ok(Key {
+            number: self.number,
+            text,
+        })
+    }
+
     // Returns the payload of the key: two bytes for each unit.
     pub(crate) fn payload(&self) -> u128
         ensures payload { result ≡ 2 * length self.now }
@@ -85,7 +108,7 @@ impl<'a> Key<'a> {
         ensures { result ≡ is_short_key self.now }
     {
         let text = self.text();
-        text.len() <= MOST_SHORT && text.is_ascii()
+        text.len() <= MOST_WIDE || text.len() <= MOST_NARROW && is_narrow(&text)
     }
 }
 
@@ -130,13 +153,57 @@ impl<'a> PartialOrd for Key<'a> {
     }
 }
 
-// Returns the last units as the digits of one number, so that short keys have different numbers.
-#[tactic(auto, using(crate::proofs::KeySteps::number_fits))]
+// Returns whether each unit is below 256.
+fn is_narrow(text: &TextRef) -> bool
+    ensures { result ≡ list_all (λ unit. nat_lt unit 256) (units_of text.now) }
+{
+    if text.is_ascii() {
+        return true;
+    }
+    for i in 0..text.len() {
+        if text.unit(i) >= 256 {
+            return false;
+        }
+    }
+    true
+}
+
+// Returns a number that no two short keys share.
 fn number_of(text: &TextRef) -> u128
     requires { AreUnits (units_of text.now) }
     ensures { result ≡ number_of (units_of text.now) }
 {
-    let first = text.len().saturating_sub(MOST_SHORT);
+    if text.len() <= MOST_WIDE {
+        WIDE + wide_number(text)
+    } else {
+        narrow_number(text)
+    }
+}
+
+// Returns the units, which are few, as the digits of one number.
+#[tactic(auto, using(crate::proofs::KeySteps::few_units))]
+fn wide_number(text: &TextRef) -> u128
+    requires few { length (units_of text.now) ≤ MOST_WIDE }
+    requires valid { AreUnits (units_of text.now) }
+    ensures number { result ≡ packed 65536 (units_of text.now) }
+    ensures below { result < 2 ^ 113 }
+{
+    let mut number: u128 = 1;
+    let mut left = text.len();
+    while left > 0 {
+        left -= 1;
+        number = 65536 * number + u128::from(text.unit(left));
+    }
+    number
+}
+
+// Returns the low bytes of the last units as the digits of one number.
+#[tactic(auto, using(crate::proofs::KeySteps::narrow_fits))]
+fn narrow_number(text: &TextRef) -> u128
+    requires { AreUnits (units_of text.now) }
+    ensures { result ≡ packed 256 (drop (length (units_of text.now) - 15) (units_of text.now)) }
+{
+    let first = text.len().saturating_sub(MOST_NARROW);
     let mut number: u128 = 1;
     let mut left = text.len();
     while left > first {

@@ -1,7 +1,8 @@
 //! Sets of keys.
-ghost use Rattle.std.specs.Prelude.{◌≡◌, ◌||◌, false, ℕ, List, nat_eq};
+ghost use Rattle.std.specs.Prelude.{◌≡◌, ◌||◌, true, false, ℕ, List, nat_eq, IfOk};
 ghost use Rattle.std.specs.Result.{OnOk};
 ghost use Rattle.std.specs.Cmp.Lexicographic.{pointwise};
+ghost use Rattle.ostep_text.specs.Key.{is_short_key};
 ghost use Rattle.ostep_text.specs.Keys.{in_set};
 
 use crate::key::Key;
@@ -31,32 +32,41 @@ impl<'a> KeySet<'a> {
         }
     }
 
-    // Returns whether the key is in the set.
-    pub(crate) fn contains(&self, key: &Key<'a>) -> bool
-        ensures { result ≡ in_set self.now key.now }
+    // Adds the key and returns whether it was in the set before. A key in memory of its own is
+    // copied, into no more than its units need.
+    #[tactic(auto, using(crate::proofs::KeySteps::one_more))]
+    pub(crate) fn insert(&mut self, alloc: Global, key: &Key<'a>) -> Result<bool, AllocError>
+        ensures known { IfOk result (λ known. known ≡ in_set self.old key.now) }
+        ensures more { OnOk result ((other : List ℕ)
+            → in_set self.new other ≡ (pointwise nat_eq other key.now || in_set self.old other)) }
     {
         if key.is_short() {
-            self.few.contains(&key.number) || self.short.contains(&key.number)
-        } else {
-            self.long.contains(key)
+            return self.insert_short(key);
         }
+        let copy = key.copy(alloc)?;
+        let added = self.long.insert(copy)?;
+        Ok(!added)
     }
 
-    // Adds the key.
+    // Adds a short key and returns whether it was in the set before.
     #[tactic(auto, using(crate::proofs::KeySteps::one_more))]
-    pub(crate) fn insert(&mut self, key: Key<'a>) -> Result<(), AllocError>
-        ensures { OnOk result ((other : List ℕ)
-            → in_set self.new other ≡ (pointwise nat_eq other key.entry || in_set self.old other)) }
+    fn insert_short(&mut self, key: &Key<'a>) -> Result<bool, AllocError>
+        requires { is_short_key key.now ≡ true }
+        ensures known { IfOk result (λ known. known ≡ in_set self.old key.now) }
+        ensures more { OnOk result ((other : List ℕ)
+            → in_set self.new other ≡ (pointwise nat_eq other key.now || in_set self.old other)) }
     {
-        if !key.is_short() {
-            self.long.insert(key)?;
-            return Ok(());
+        let number = key.number;
+        if self.few.contains(&number) {
+            return Ok(true);
         }
         if self.few.len() == FEW {
-            self.short.insert(key.number)?;
-            return Ok(());
+            let added = self.short.insert(number)?;
+            return Ok(!added);
         }
-        self.few.push(key.number)?;
-        Ok(())
+        // The set is empty as long as there are few keys.
+        let known = self.short.contains(&number);
+        self.few.push(number)?;
+        Ok(known)
     }
 }

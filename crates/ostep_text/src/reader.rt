@@ -172,10 +172,9 @@ impl<'a> Reader<'a> {
             let Some(key) = first.key() else {
                 return Err(self.tokens.refuse(TextFault::Expected { octet }));
             };
-            let known = keys.contains(&key);
+            let known = keys.insert(self.alloc, &key)?;
             let row = self.row(&key, octet, levels, known)?;
             rows.push(row)?;
-            keys.insert(key)?;
         }
     }
 

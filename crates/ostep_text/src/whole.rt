@@ -151,16 +151,15 @@ impl<'a> Reader<'a> {
         let mut keys = KeySet::new(self.alloc);
         let mut rows = Rows::new(self.alloc);
         rows.push(row)?;
-        keys.insert(key)?;
+        keys.insert(self.alloc, &key)?;
         while let Some(first) = self.tokens.next_first()? {
             let octet = first.start();
             let Some(key) = first.key() else {
                 return Err(self.tokens.refuse(TextFault::Junk { octet }));
             };
-            let known = keys.contains(&key);
+            let known = keys.insert(self.alloc, &key)?;
             let row = self.row(&key, octet, BARE_LEVELS, known)?;
             rows.push(row)?;
-            keys.insert(key)?;
         }
         put_table(&mut self.draft, &rows)
     }

@@ -3,21 +3,23 @@ use Rattle.std.specs.Result.{OnOk}
 use Rattle.std.proofs.lemmas.Result.{IfOk-weaker}
 use Rattle.plist_value.specs.Texts.{units_of}
 use Rattle.plist_value.specs.Budget.{Spends}
-use Rattle.plist_value.specs.Plist.{AreUnits, AreOctets, scalar, text, bytes, list, table, no_items, no_pairs}
+use Rattle.plist_value.specs.Plist.{AreUnits, AreOctets, scalar, text, bytes, list, table, Pairs, no_items, no_pairs}
 use Rattle.plist_value.proofs.Pairs.{put_pair}
 use Rattle.ostep_lex.specs.Lexeme.{Lexeme, Located, located, lexeme_of, text as string, octets as data_token, paren_open, brace_open, equals}
 use Rattle.ostep_text.specs.Begun.{opened, with_items, with_rows, with_key}
 use Rattle.ostep_text.specs.Sorting.{has_key}
 use Rattle.plist_draft.specs.Encoded.{SpellsIn, SpellItemsIn}
 use Rattle.plist_draft.specs.View.{objects}
-use Rattle.ostep_text.specs.Drafted.{IsBuilt}
+use Rattle.ostep_text.specs.Drafted.{IsBuilt, SpellsRows}
+use Rattle.ostep_text.specs.Keys.{HasKeysOf}
+use Rattle.ostep_text.specs.declared.entries.Rows.{Rows}
 use Rattle.ostep_text.specs.declared.fault.TextFault.TheVariants.{Expected}
 use Rattle.ostep_text.specs.declared.reader.Reader.{Reader}
 use Rattle.ostep_text.specs.First.{first_placed, is_string}
 use Rattle.ostep_text.specs.Stands.{Stands}
 use Rattle.ostep_text.specs.Machine
 use Rattle.ostep_text.specs.Machine.{Around}
-use Rattle.ostep_text.specs.Reading.{Front, HasRead, MayRefuse, StandsIfLexed, ReadsItems, ReadsValue, Takes, TakesItems}
+use Rattle.ostep_text.specs.Reading.{Front, HasRead, MayRefuse, StandsIfLexed, ReadsItems, ReadsPairs, ReadsValue, Takes, TakesItems, TakesPairs}
 use Rattle.ostep_text.specs.Due.{ValueDue}
 use Rattle.ostep_lex.proofs.Exits.{passed_on, on_ok}
 use Rattle.ostep_text.proofs.MachineLemmas.{leads-nowhere, item-begun, item-ended, list-end, table-end, row-ended, key-ended, table-ended, value-ended, value-none}
@@ -29,7 +31,7 @@ use Rattle.ostep_text.proofs.DueSteps.{list-due, items-open, item-due, item-lead
 use Rattle.ostep_text.proofs.TakeSteps.{no-items-taken, no-pairs-taken, item-taken, pair-taken, row-taken, scalar-taken, list-taken, table-taken, opened-left, items-left, rows-left, key-left, spends-same}
 use Rattle.ostep_text.proofs.ReadSteps.{string-read, data-read, list-read, no-items-read, EndsItem, continued, closed, item-read, items-read, ended-read, row-read, alone-read, no-pairs-read, pair-read, pairs-read, pairs-table}
 use Rattle.ostep_text.proofs.reader.Reader.+value.Goals as goal
-use Rattle.ostep_text.proofs.reader.Reader.+value.Goals.{items-In_ok-after, rows-In-Some}
+use Rattle.ostep_text.proofs.reader.Reader.+value.Goals.{items-In_ok-after, rows-In-Some, rows-In_ok-push}
 
 pub items-loop-items-init : goal.items-loop-items-init
 items-loop-items-init t c = record {
@@ -315,34 +317,48 @@ rows-returns-in_err-row-clause-stands t c octets tokens whole b a f h d i =
     passed_on (Stands octets) c.in_err-row.field-0.0 c.from_residual-in_err-row.result c.from_residual-in_err-row.ensures.1
     (c.in_err-row.ensures.stands octets r.read.reads.all (first_placed c.in_ok-first.first) (λ rest. whole (r.read.inside rest)) (opened b) (Machine.in_braces a) r.rows built.meant
     (rows-key t at) (sym c.start-octet.ensures) (r.read.reads.follow whole f) (c.in_ok-first.ensures.read octets r.read.reads.all r.read.reads.has)
-    (row-due r.read.inside d r.read.spells r.same built.taken.valid) (known-is c.loop-rows.keys built.meant c.in-Some.key built.means_it.1 c.contains-known.ensures)
+    (row-due r.read.inside d r.read.spells r.same built.taken.valid) (known-is c.loop-rows.keys built.meant c.in-Some.key built.means_it.1 c.in_ok-known.ensures.known)
     (rows-left i built.taken r.same))
 
-pub rows-loop-rows-preserved : goal.rows-loop-rows-preserved
-rows-loop-rows-preserved t c =
-    let at = (goal.at.rows-loop-rows-preserved t c).In-Some in
+-- the rows and one more
+rows-built : (t : ℕ) (c : rows-In_ok-push t)
+    → IsBuilt (λ (rows : Rows) (ps : Pairs). SpellsRows (objects c.row.new.self.draft) rows ps × HasKeysOf c.insert.new.self ps) c.push.new.self
+    (λ ps. TakesPairs c.args.self.now.left c.args.levels ps c.row.new.self.left)
+    (λ ps. (octets : List ℕ) (tokens : List Located) → HasRead octets tokens c.args.self.now.tokens → ReadsPairs octets tokens [] ps c.row.new.self.tokens)
+rows-built t c =
     let b = c.loop-rows.invariant.built in
     let row = c.in_ok-row.ensures.built in
     let key = c.in-Some.key in
-    let once : has_key key b.meant ≡ false = known-is c.loop-rows.keys b.meant key b.means_it.1 c.contains-known.ensures ∙ c.in_ok-row.ensures.once in
+    let once : has_key key b.meant ≡ false = known-is c.loop-rows.keys b.meant key b.means_it.1 c.in_ok-known.ensures.known ∙ c.in_ok-row.ensures.once in
     let stands = put-stands key row.meant b.meant once in
     record {
-      kept = keeps-then c.loop-rows.invariant.kept c.in_ok-row.ensures.kept;
-      even = rows-even c.loop-rows.rows c.push.new.self c.in_ok-row.row c.in_ok-push.ensures.keys c.in_ok-push.ensures.values c.loop-rows.invariant.even;
-      shorter = omega (arith, c.in_ok-row.ensures.shorter, c.in_ok-first.ensures.shorter, c.loop-rows.invariant.shorter);
-      built = record {
-        meant = put_pair key row.meant b.meant;
-        means_it = (
-          rows-more (objects c.loop-rows.self.draft) (objects c.row.new.self.draft) c.loop-rows.rows c.push.new.self c.in_ok-row.row c.in_ok-push.ensures.keys c.in_ok-push.ensures.values
-              c.loop-rows.invariant.even c.in_ok-row.ensures.kept b.means_it.0 row.means_it stands,
-          keys-more c.loop-rows.keys c.insert.new.self b.means_it.1 stands c.in_ok-insert.ensures,
-        );
-        taken = pair-taken key row.meant b.meant b.taken row.taken once;
-        read = λ octets tokens h.
-            let r = b.read octets tokens h in
-            pair-read r (row.read octets r.read.reads.all (first_placed c.in_ok-first.first) (rows-key t at) (c.in_ok-first.ensures.read octets r.read.reads.all r.read.reads.has)) once;
-      };
+      meant = put_pair key row.meant b.meant;
+      means_it = (
+        rows-more (objects c.loop-rows.self.draft) (objects c.row.new.self.draft) c.loop-rows.rows c.push.new.self c.in_ok-row.row c.in_ok-push.ensures.keys c.in_ok-push.ensures.values
+            c.loop-rows.invariant.even c.in_ok-row.ensures.kept b.means_it.0 row.means_it stands,
+        keys-more c.loop-rows.keys c.insert.new.self b.means_it.1 stands c.in_ok-known.ensures.more,
+      );
+      taken = pair-taken key row.meant b.meant b.taken row.taken once;
+      read = λ octets tokens h.
+          let r = b.read octets tokens h in
+          pair-read r (row.read octets r.read.reads.all (first_placed c.in_ok-first.first) c.in-Some.ensures (c.in_ok-first.ensures.read octets r.read.reads.all r.read.reads.has)) once;
     }
+
+pub rows-loop-rows-preserved-in_ok-push : goal.rows-loop-rows-preserved-in_ok-push
+rows-loop-rows-preserved-in_ok-push t c = record {
+  kept = keeps-then c.loop-rows.invariant.kept c.in_ok-row.ensures.kept;
+  even = rows-even c.loop-rows.rows c.push.new.self c.in_ok-row.row c.in_ok-push.ensures.keys c.in_ok-push.ensures.values c.loop-rows.invariant.even;
+  shorter = omega (arith, c.in_ok-row.ensures.shorter, c.in_ok-first.ensures.shorter, c.loop-rows.invariant.shorter);
+  built = rows-built t (goal.at.rows-loop-rows-preserved-in_ok-push t c).In_ok-push;
+}
+
+pub rows-loop-rows-preserved : goal.rows-loop-rows-preserved
+rows-loop-rows-preserved t c = record {
+  kept = keeps-then c.loop-rows.invariant.kept c.in_ok-row.ensures.kept;
+  even = rows-even c.loop-rows.rows c.push.new.self c.in_ok-row.row c.in_ok-push.ensures.keys c.in_ok-push.ensures.values c.loop-rows.invariant.even;
+  shorter = omega (arith, c.in_ok-row.ensures.shorter, c.in_ok-first.ensures.shorter, c.loop-rows.invariant.shorter);
+  built = rows-built t (goal.at.rows-loop-rows-preserved t c).In_ok-push;
+}
 
 pub rows-returns-in_default-clause-stands : goal.rows-returns-in_default-clause-stands
 rows-returns-in_default-clause-stands t c octets tokens whole b a f h d i =

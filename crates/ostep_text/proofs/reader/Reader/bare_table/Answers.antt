@@ -1,6 +1,6 @@
 use Rattle.std.proofs.Common.{◌≡◌, ℕ, List, ◌∷◌, ◌++◌, [], false, sym, subst, ◌∙◌}
 use Rattle.std.proofs.lemmas.Result.{IfOk-weaker}
-use Rattle.plist_value.specs.Plist.{Plist, no_pairs, pair, table}
+use Rattle.plist_value.specs.Plist.{Plist, Pairs, no_pairs, pair, table}
 use Rattle.plist_value.proofs.Pairs.{put_pair}
 use Rattle.ostep_lex.specs.Lexeme.{Located, text as string}
 use Rattle.ostep_text.specs.First.{first_placed, is_string}
@@ -13,14 +13,17 @@ use Rattle.ostep_lex.specs.Lexing.{HasTokens}
 use Rattle.ostep_text.specs.Begun.{nothing, opened}
 use Rattle.ostep_text.specs.Stands.{Stands}
 use Rattle.ostep_text.specs.Machine
-use Rattle.ostep_text.specs.Reading.{HasRead, StandsIfLexed}
+use Rattle.ostep_text.specs.Reading.{HasRead, IsLeft, ReadsRow, StandsIfLexed, TakesRow}
+use Rattle.ostep_text.specs.Drafted.{SpellsRow, SpellsRows}
+use Rattle.ostep_text.specs.Keys.{HasKeysOf}
+use Rattle.plist_value.specs.declared.budget.Budget.{Budget}
 use Rattle.ostep_lex.proofs.Exits.{passed_on}
 use Rattle.ostep_text.proofs.Standing.{junk-at}
 use Rattle.ostep_text.proofs.TakeSteps.{rows-left}
 use Rattle.ostep_text.proofs.MachineLemmas.{bare-ended}
-use Rattle.ostep_text.proofs.BareSteps.{bare-first, bare-more, bare-phrase, bare-text, bare-ends}
+use Rattle.ostep_text.proofs.BareSteps.{BareRead, bare-first, bare-more, bare-phrase, bare-text, bare-ends}
 use Rattle.ostep_text.proofs.reader.Reader.bare_table.Goals as goal
-use Rattle.ostep_text.proofs.reader.Reader.bare_table.Goals.{In-Some, In-Some-key}
+use Rattle.ostep_text.proofs.reader.Reader.bare_table.Goals.{In-Some, In-Some-key, In_ok-push-2}
 
 alone : (key : List ℕ) (v : Plist) → StandsAmong key v no_pairs (pair key v no_pairs)
 alone key v = first
@@ -35,7 +38,7 @@ loop-rows-init c = record {
           rows-more helds helds c.new-rows.result c.push.new.self c.args.row c.in_ok-push.ensures.keys c.in_ok-push.ensures.values
               (none-even c.new-rows.result c.new-rows.ensures.keys c.new-rows.ensures.values) (keeps-all helds)
               (rows-none helds c.new-rows.result c.new-rows.ensures.keys c.new-rows.ensures.values) m first,
-          keys-more c.new-keys.result c.insert.new.self (λ key. c.new-keys.ensures key) (alone c.args.key v) c.in_ok-insert.ensures,
+          keys-more c.new-keys.result c.insert.new.self (λ key. c.new-keys.ensures key) (alone c.args.key v) c.in_ok-insert.ensures.more,
         ),
         bare-first c.args.self.now t r,
       );
@@ -62,29 +65,40 @@ returns-in_err-row-clause-stands c octets left v m i t r =
     let key = c.in-Some-key.key in
     passed_on (Stands octets) c.in_err-row.field-0.0 c.from_residual-in_err-row.result c.from_residual-in_err-row.ensures.1
     (c.in_err-row.ensures.stands octets b.tokens (first_placed c.in-Some.first) b.whole (opened nothing) Machine.bare b.rows p.0 (key-is at.In-Some-key) (sym c.start-octet.ensures) b.before
-    (first-read at.In-Some octets b.tokens b.has) b.due (known-is c.loop-rows.keys p.0 key p.1.1 c.contains-known.ensures) (rows-left i b.taken b.due.sorted.same))
+    (first-read at.In-Some octets b.tokens b.has) b.due (known-is c.loop-rows.keys p.0 key p.1.1 c.in_ok-known.ensures.known) (rows-left i b.taken b.due.sorted.same))
+
+-- the rows and one more
+rows-built : (c : In_ok-push-2) (octets : List ℕ) (left : Budget) (v : Plist) → SpellsRow (objects c.args.self.now.draft) c.args.key c.args.row v → IsLeft left 511 (opened nothing)
+    → TakesRow left 511 c.args.key v c.args.self.now.left → ReadsRow octets [] c.args.key v c.args.self.now.tokens
+    → (ps : Pairs) × (SpellsRows (objects c.row.new.self.draft) c.push-in-Some.new.self ps × HasKeysOf c.insert-in-Some.new.self ps) × BareRead octets left ps c.row.new.self
+rows-built c octets left v m i t r =
+    let p = c.loop-rows.invariant.built octets left v m i t r in
+    let b = p.2 in
+    let key = c.in-Some-key.key in
+    let once : has_key key p.0 ≡ false = known-is c.loop-rows.keys p.0 key p.1.1 c.in_ok-known.ensures.known ∙ c.in_ok-row.ensures.once in
+    let row = c.in_ok-row.ensures.built in
+    let stands = put-stands key row.meant p.0 once in
+    let has : HasRead octets (b.tokens ++ first_placed c.in-Some.first ∷ []) c.next_first.new.self = rw c.in-Some.is at (c.in_ok-first.ensures.read octets b.tokens b.has) in (
+      put_pair key row.meant p.0,
+      (
+        rows-more (objects c.loop-rows.self.draft) (objects c.row.new.self.draft) c.loop-rows.rows c.push-in-Some.new.self c.in_ok-row.row c.in_ok-push-2.ensures.keys
+            c.in_ok-push-2.ensures.values c.loop-rows.invariant.even c.in_ok-row.ensures.kept p.1.0 row.means_it stands,
+        keys-more c.loop-rows.keys c.insert-in-Some.new.self p.1.1 stands c.in_ok-known.ensures.more,
+      ),
+      bare-more c.row.new.self b row.taken once (row.read octets b.tokens (first_placed c.in-Some.first) c.in-Some-key.ensures has),
+    )
+
+pub loop-rows-preserved-in_ok-push-2 : goal.loop-rows-preserved-in_ok-push-2
+loop-rows-preserved-in_ok-push-2 c = record {
+  even = rows-even c.loop-rows.rows c.push-in-Some.new.self c.in_ok-row.row c.in_ok-push-2.ensures.keys c.in_ok-push-2.ensures.values c.loop-rows.invariant.even;
+  built = rows-built (goal.at.loop-rows-preserved-in_ok-push-2 c).In_ok-push-2;
+}
 
 pub loop-rows-preserved : goal.loop-rows-preserved
-loop-rows-preserved c =
-    let at = goal.at.loop-rows-preserved c in
-    record {
-      even = rows-even c.loop-rows.rows c.push-in-Some.new.self c.in_ok-row.row c.in_ok-push-2.ensures.keys c.in_ok-push-2.ensures.values c.loop-rows.invariant.even;
-      built = λ octets left v m i t r.
-          let p = c.loop-rows.invariant.built octets left v m i t r in
-          let b = p.2 in
-          let key = c.in-Some-key.key in
-          let once : has_key key p.0 ≡ false = known-is c.loop-rows.keys p.0 key p.1.1 c.contains-known.ensures ∙ c.in_ok-row.ensures.once in
-          let row = c.in_ok-row.ensures.built in
-          let stands = put-stands key row.meant p.0 once in (
-            put_pair key row.meant p.0,
-            (
-              rows-more (objects c.loop-rows.self.draft) (objects c.row.new.self.draft) c.loop-rows.rows c.push-in-Some.new.self c.in_ok-row.row c.in_ok-push-2.ensures.keys
-                  c.in_ok-push-2.ensures.values c.loop-rows.invariant.even c.in_ok-row.ensures.kept p.1.0 row.means_it stands,
-              keys-more c.loop-rows.keys c.insert-in-Some.new.self p.1.1 stands c.in_ok-insert-2.ensures,
-            ),
-            bare-more c.row.new.self b row.taken once (row.read octets b.tokens (first_placed c.in-Some.first) (key-is at.In-Some-key) (first-read at.In-Some octets b.tokens b.has)),
-          );
-    }
+loop-rows-preserved c = record {
+  even = rows-even c.loop-rows.rows c.push-in-Some.new.self c.in_ok-row.row c.in_ok-push-2.ensures.keys c.in_ok-push-2.ensures.values c.loop-rows.invariant.even;
+  built = rows-built (goal.at.loop-rows-preserved c).In_ok-push-2;
+}
 
 pub returns-in_default-key-clause-stands : goal.returns-in_default-key-clause-stands
 returns-in_default-key-clause-stands c octets left v m i t r =
