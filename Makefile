@@ -7,7 +7,7 @@
 ## make around                the gate without the proofs, over what is built
 ## make mutants [CRATE=NAME]  tries the mutants that the gate leaves out
 ## make plant [CRATE=NAME]    lists wrong bodies that contracts let through
-## make claims              writes each promise with its contract, and all definitions below it, to out/claims.html
+## make claims                prints each promise of docs/PROOFS.md with its contract, as the code has it
 ## make fuzz [SECONDS=60] [SEED=1]   compares the program with a second reading of the formats
 ## make tools, examples, words, new-user   try the commands in tools/ and the README, the bindings, arguments that are not
 ##                            UTF-8, and what a new user does on a clean checkout
@@ -44,7 +44,7 @@ plant:
 	scripts/plant.sh $(CRATE)
 
 claims:
-	scripts/claims.py
+	@scripts/claims.py --print
 
 fuzz: plistconv
 	python3 fuzz/rows.py

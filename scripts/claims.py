@@ -1,235 +1,218 @@
 #!/usr/bin/env python3
-"""scripts/claims.py [--counts]: writes what must be believed: each promise of docs/PROOFS.md,
-with its contract, and below it every definition that it cites, down to the library's, each once,
-before what uses it.
+"""scripts/claims.py [--print]: checks that each contract that docs/PROOFS.md names exists.
 
-It writes out/claims.txt and out/claims.html. A row of a table in PROOFS.md is a promise: a sentence
-| its contract | N/M. The contract is names in backticks: `FUNCTION: CLAUSE, CLAUSE` (all its
-clauses, if it names none), where FUNCTION is `fits`, `Whole::new`, `plist_forms::laws::headline` or
-`laws::{one_value, limits}`, as long as tells it from others; or `Fault as Display`, the ghost
-members of an implementation. After a name of functions that no other crate can call comes
-`(private)`. N/M are the definitions and lines that it rests on; --counts writes them there.
-Sections without a table end the page: `Premises` and `Only tested` have to be among them.
+A row of a table in PROOFS.md is a promise: a sentence | its contract. The contract is names in
+backticks, or `—`: `FUNCTION: CLAUSE, CLAUSE` (all its clauses, if it names none), where FUNCTION is
+`fits`, `Whole::new`, `plist_forms::laws::headline` or `laws::{one_value, limits}`, as long as tells
+it from others; or `Fault as Display`, an implementation. After names of functions that no other
+crate can call comes `(private)`. --print prints each promise with its contract, as the code has it.
 
-Fails if a name stands for nothing, a function or clause is missing, a private function is not
-marked so, the premises leave out a crate of the library that is cited, or a number in PROOFS.md
-is not the script's.
+Fails if a name stands for no function or for several, if a clause is missing, if functions are
+private and not marked so or the other way round, if the section `Premises` leaves out a crate of
+the toolchain that a crate uses, or if there is no section `Only tested`.
 """
 from __future__ import annotations
 
 import re
 import sys
-from dataclasses import dataclass, field
+from dataclasses import dataclass
 from pathlib import Path
 
-import claims_rust as rust
-from claims_page import Page, write_pages
-from claims_terms import Definition, Fault
-from claims_tree import Tree
-
+TESTS = {"plist_tests", "program_tests", "test_files", "rows"}
 SPAN = re.compile(r"`([^`\n]+)`( \(private\))?")
 NAMED = re.compile(r"((?:\w+::)*)(\{[\w, ]+\}|\w+)(?:: (\w+(?:, \w+)*)| as (\w+))?")
-# (fields of the library's types, and of its views of references; then of clap's)
-FIELDS = set("now old new entry exit items keys entries ghost_name".split())
-FIELDS |= set(
-    "top has_version subcommand_required required parser range start_inclusive end_inclusive"
-    " long action".split()
+FUNCTION = re.compile(
+    r'(?P<indent>(?:    )?)(?P<visible>pub(?:\(\w+\))? )?(?:const |unsafe |extern "C" )*fn (?P<name>\w+)'
 )
-TOTAL = re.compile(r"([\d,]+) definitions, ([\d,]+) lines; ([\d,]+) of them, ([\d,]+) lines")
+OWNER = re.compile(
+    r"(?P<visible>pub )?(?:impl(?:<.*>)? (?:(?P<trait>[\w:]+)(?:<.*>)? for )?&?(?P<type>\w+)"
+    r"|trait (?P<name>\w+))"
+)
+CLAUSE = re.compile(r" *(?:(?P<comment>//)|(?P<word>requires|ensures)\*?(?: (?P<name>\w+))? \{)")
+
+
+class Fault(Exception):
+    """What is wrong, in words for whoever wrote the page."""
 
 
 @dataclass
-class Promise:
-    """A promise of PROOFS.md: its sentence, its contracts, and what it rests on."""
+class Item:
+    """A function with its clauses, or an implementation with its ghost members."""
 
-    line: int
-    section: str
-    sentence: str
-    names: list[tuple[str, bool]]  # (as PROOFS.md has them, and whether it marks them as private)
-    stated: str
-    contracts: list[Definition] = field(default_factory=list)
-    rests_on: list[str] = field(default_factory=list)  # (keys, each after what it cites)
+    crate: str
+    scope: set[str]  # (its modules, and the type or trait that it is a member of)
+    owner: str
+    name: str  # (of an implementation: that of the trait)
+    is_public: bool
+    place: str
+    lines: list[str]
+
+    def clauses(self) -> set[str]:
+        """Returns the names of what it ensures, of which one may be empty."""
+        found = (CLAUSE.match(line) for line in self.lines)
+        return {match["name"] or "" for match in found if match and match["word"] == "ensures"}
+
+    def shown(self, wanted: set[str]) -> list[str]:
+        """Returns its place and its lines, without clauses that are not wanted."""
+        shown, comments, is_wanted = [self.place], [], True
+        for line in self.lines:
+            match = CLAUSE.match(line)
+            if match and match["comment"]:
+                comments.append(line)
+                continue
+            if match:
+                is_wanted = match["word"] == "requires" or not wanted or match["name"] in wanted
+            shown += [*comments, line] if is_wanted else []
+            comments = []
+        return shown
 
 
-def promises(text: str) -> list[Promise]:
-    """Returns the rows of the tables."""
-    found, section = [], ""
-    for number, line in enumerate(text.splitlines(), 1):
-        if line.startswith("## "):
-            section = line[3:]
-        cells = [cell.strip() for cell in line.split(" |")]
-        if len(cells) == 3 and not cells[0] == "promise" and not line.startswith("---"):
-            names = [(name, bool(mark)) for name, mark in SPAN.findall(cells[1])]
-            found.append(Promise(number, section, cells[0], names, cells[2]))
-    if not found:
-        raise Fault("PROOFS.md has no promise")
+def head(lines: list[str], indent: str = "") -> list[str]:
+    """Returns the first lines, which are those of an item, up to its body."""
+    taken = []
+    for line in lines:
+        if line.startswith(indent + "{"):
+            break
+        is_last = line.endswith((" {", " {}", ";")) and not line.startswith(indent + "    ")
+        taken.append(re.sub(r" \{\}?$", "", line) if is_last else line)
+        if is_last or line.endswith(";"):
+            break
+    return taken
+
+
+def items(crate: str, path: Path, src: Path) -> list[Item]:
+    """Returns the functions and implementations of a file, in the layout of `rt fmt`."""
+    modules = set(path.relative_to(src).with_suffix("").parts) - {"lib", "main", "mod"}
+    lines, found = path.read_text(encoding="utf-8").splitlines(), []
+    owner, is_open = "", False
+    for at, line in enumerate(lines):
+        place = f"crates/{crate}/src/{path.relative_to(src)}:{at + 1}"
+        if re.match(r"(pub )?(impl|trait)\b", line):
+            match = OWNER.match(" ".join(map(str.strip, head(lines[at:]))))
+            if match is None:
+                raise Fault(f"{place}: an implementation or a trait that is not read")
+            owner, trait = match["type"] or match["name"], (match["trait"] or "").split("::")[-1]
+            is_open = bool(trait or match["name"] and match["visible"])
+            if trait:
+                ends = (
+                    n for n in range(at + 1, len(lines)) if re.match(r"    .*\bfn |\}", lines[n])
+                )
+                ghosts = lines[at : next(ends, at + 1)]
+                found.append(Item(crate, modules, owner, trait, True, place, ghosts))
+        elif line.startswith("}"):
+            owner, is_open = "", False
+        elif match := FUNCTION.match(line):
+            scope, is_public = modules | {owner}, match["visible"] == "pub " or is_open
+            taken = head(lines[at:], match["indent"])
+            found.append(Item(crate, scope, owner, match["name"], is_public, place, taken))
     return found
 
 
-def contracts(tree: Tree, named: str, is_private: bool) -> list[Definition]:
-    """Returns the contracts that a name in PROOFS.md stands for. Functions are private
-    exactly if it says so."""
+class Tree:
+    """What the crates have, but those of tests."""
+
+    def __init__(self, top: Path) -> None:
+        lines = (top / "crates.txt").read_text(encoding="utf-8").splitlines()
+        uses = {line.split()[0].rstrip(":"): line.partition(":")[2].split() for line in lines}
+        crates = [crate for crate in uses if crate not in TESTS]
+        files = [
+            (crate, path, top / "crates" / crate / "src")
+            for crate in crates
+            for path in sorted((top / "crates" / crate).glob("src/**/*.rt"))
+        ]
+        self.crates = set(crates)
+        self.items = [item for file in files for item in items(*file)]
+        text = "".join(path.read_text(encoding="utf-8") for _, path, _ in files)
+        others = {other for crate in crates for other in uses[crate] if other not in uses}
+        self.others = sorted(it for it in others if re.search(rf"\buse (Rattle\.)?{it}\b", text))
+
+    def find(self, path: list[str], name: str, trait: str | None) -> Item:
+        """Returns the function of a name, of which the path tells crate, module or type, or
+        the implementation of a trait for a type of that name."""
+        crates, rest = self.crates, set(path)
+        if path and path[0] in crates:
+            crates, rest = {path[0]}, set(path[1:])
+        found = [
+            it
+            for it in self.items
+            if it.crate in crates
+            and (
+                (it.owner, it.name) == (name, trait)
+                if trait
+                else it.name == name and rest <= it.scope and (not it.owner or it.owner in rest)
+            )
+        ]
+        found = [it for it in found if it.is_public] or found
+        if len(found) != 1:
+            places = "".join(f", {it.place}" for it in found)
+            name = "::".join([*path, name]) + (f" as {trait}" if trait else "")
+            raise Fault(f"{len(found)} items are {name}{places}")
+        return found[0]
+
+
+def contracts(tree: Tree, named: str, is_private: bool) -> list[tuple[Item, set[str]]]:
+    """Returns what a name in PROOFS.md stands for, each with the clauses that it names."""
     match = NAMED.fullmatch(named)
     if match is None:
         raise Fault(f"`{named}` does not name a contract")
-    path = match[1].split("::")[:-1]
-    if match[4]:
-        return [implemented(tree, path, match[2], match[4])]
-    wanted = (match[3] or "").split(", ") if match[3] else []
-    items = [function(tree, path, name) for name in re.findall(r"\w+", match[2])]
-    for item in items:
+    path, wanted = match[1].split("::")[:-1], set(re.findall(r"\w+", match[3] or ""))
+    found = [tree.find(path, name, match[4]) for name in re.findall(r"\w+", match[2])]
+    for item in found:
         if item.is_public == is_private:
             raise Fault(f"{item.name} is {'not ' if is_private else ''}private")
-    return [of_function(tree, item, wanted) for item in items]
+        missing = wanted - item.clauses()
+        if missing or not (match[4] or item.clauses()):
+            raise Fault(f"{item.name} has no clause {', '.join(sorted(missing))}".rstrip())
+    return [(item, wanted) for item in found]
 
 
-def function(tree: Tree, path: list[str], name: str) -> rust.Item:
-    """Returns the function of a name, of which the path tells crate, module or type."""
-    crates, rest = (path[:1], path[1:]) if path and path[0] in tree.crates else (tree.crates, path)
+def promises(text: str) -> list[tuple[int, str, list[tuple[str, bool]]]]:
+    """Returns the rows of the tables: their line, their sentence, and names with their marks."""
     found = []
-    for file in (file for crate in crates for file in tree.files(crate)):
-        for item in file.items:
-            owner = item.owner.name if item.owner else None
-            is_there = set(rest) <= {*file.module, owner} and (not owner or owner in rest)
-            if item.kind == "fn" and item.name == name and is_there:
-                found.append(item)
-    found = [item for item in found if item.is_public] or found
-    if len(found) != 1:
-        places = ", ".join(f"{item.file.path.name} of {item.file.crate}" for item in found)
-        raise Fault(f"{len(found)} functions are {'::'.join([*path, name])}: {places}")
-    return found[0]
+    for number, line in enumerate(text.splitlines(), 1):
+        sentence, is_row, names = line.partition(" | ")
+        if is_row and sentence != "promise":
+            spans = [(name, bool(mark)) for name, mark in SPAN.findall(names)]
+            if SPAN.sub("", names).strip(", ") != ("" if spans else "—"):
+                raise Fault(f"PROOFS.md:{number}: not SENTENCE | CONTRACT")
+            found.append((number, sentence, spans))
+    return found
 
 
-def of_function(tree: Tree, item: rust.Item, wanted: list[str]) -> Definition:
-    """Returns the clauses of a function: what it requires, and what it ensures by these names."""
-    owner = [item.owner.name] if item.owner else []
-    name = "::".join([item.file.crate, *item.file.module, *owner, item.name])
-    text = rust.contract(item)
-    clauses = rust.clauses(text)
-    missing = sorted(set(wanted) - {clause for word, clause, _, _ in clauses if word == "ensures"})
-    if missing or not clauses:
-        raise Fault(f"{name} has no clause {', '.join(missing)}".rstrip())
-    for word, clause, start, end in reversed(clauses):
-        if word == "ensures" and wanted and clause not in wanted:
-            first = text.rfind("\n", 0, text.rfind(word, 0, start))
-            while re.match(r"\n *(//[^\n]*)?$", text[text.rfind("\n", 0, first) : first]):
-                first = text.rfind("\n", 0, first)
-            text = text[:first] + text[end + 1 :].lstrip(";")
-    made = Definition(": ".join([name, *wanted]), item.file.path, item.first + 1, text, [name])
-    tree.read_item(made, item)
-    return made
-
-
-def implemented(tree: Tree, path: list[str], name: str, trait: str) -> Definition:
-    """Returns the ghost members of the implementation of a trait for a type."""
-    for crate in path[:1] or tree.crates:
-        item = tree.implementation(crate, name, trait)
-        if item is not None:
-            made = tree.definitions[tree.declare(item)]
-            contract = Definition(made.key, made.file, made.line, made.text, made.names)
-            tree.read_item(contract, item)
-            return contract
-    raise Fault(f"no {name} is {trait}")
-
-
-class Order:
-    """Definitions in an order in which each comes after what it cites."""
-
-    def __init__(self, tree: Tree) -> None:
-        self.tree = tree
-        self.done: list[str] = []
-        self.open: list[str] = []
-
-    def add(self, key: str) -> None:
-        """Adds a definition behind all that it cites."""
-        if key in self.done:
-            return
-        if key in self.open:
-            raise Fault(f"{' cites '.join([*self.open[self.open.index(key):], key])}")
-        self.open.append(key)
-        definition = self.tree.read(key)
-        for other in self.tree.cited(definition):
-            self.add(other)
-        self.open.pop()
-        self.done.append(key)
-
-
-def check_fields(tree: Tree, definition: Definition) -> None:
-    """Fails if a definition reads a field of no type that it cites, or that what it cites does."""
-    cited = [tree.definitions[key] for key in tree.below(definition)]
-    known = FIELDS.union(*(made.fields | made.constructors for made in [definition, *cited]))
-    for _, name in definition.accesses:
-        if name not in known:
-            raise Fault(
-                f"{definition.file.name}:{definition.line}: {definition.names[0]}: no type has a field {name}"
-            )
-
-
-def explain(tree: Tree, found: list[Promise]) -> None:
-    """Finds the contracts of the promises, and what each rests on."""
-    for promise in found:
-        order = Order(tree)
-        try:
-            promise.contracts = [made for name in promise.names for made in contracts(tree, *name)]
-            for contract in promise.contracts:
-                for key in tree.cited(contract):
-                    order.add(key)
-        except Fault as fault:
-            raise Fault(f"PROOFS.md:{promise.line}: {fault}") from None
-        for definition in [*promise.contracts, *map(tree.read, order.done)]:
-            check_fields(tree, definition)
-        promise.rests_on = order.done
-
-
-def size(tree: Tree, keys: list[str]) -> tuple[int, int]:
-    """Returns how many definitions these are, and how many lines they have."""
-    definitions = [tree.definitions[key] for key in keys]
-    return sum(len(made.names) for made in definitions), sum(made.lines() for made in definitions)
-
-
-def counted(tree: Tree, found: list[Promise], text: str) -> str:
-    """Returns the text of PROOFS.md with the numbers as they are."""
-    lines = text.splitlines(keepends=True)
-    for promise in found:
-        if promise.names:
-            sentence, names, _ = lines[promise.line - 1].split(" |")
-            lines[
-                promise.line - 1
-            ] = f"{sentence} |{names} | {'/'.join(map(str, size(tree, promise.rests_on)))}\n"
-    every = [key for promise in found for key in promise.rests_on]
-    shared = [key for key in dict.fromkeys(every) if every.count(key) > 1]
-    numbers = [*size(tree, list(dict.fromkeys(every))), *size(tree, shared)]
-    total = "{:,} definitions, {:,} lines; {:,} of them, {:,} lines".format(*numbers)
-    return TOTAL.sub(total, "".join(lines))
+def check(top: Path) -> tuple[list[str], list[str]]:
+    """Returns the lines of --print, and what is wrong."""
+    text, tree = (top / "docs" / "PROOFS.md").read_text(encoding="utf-8"), Tree(top)
+    printed, wrong = [], []
+    for number, sentence, spans in promises(text):
+        printed += ["", f"# {sentence}"]
+        for name, mark in spans:
+            try:
+                for item, wanted in contracts(tree, name, mark):
+                    printed += ["", *item.shown(wanted)]
+            except Fault as fault:
+                wrong.append(f"PROOFS.md:{number}: {fault}")
+    sections = {part.partition("\n")[0]: part for part in re.split(r"(?m)^## ", text)}
+    for name in ("Premises", "Only tested"):
+        wrong += [] if name in sections else [f"PROOFS.md has no section {name}"]
+    wrong += [
+        f"the premises in PROOFS.md do not name `{other}`, which is used"
+        for other in tree.others
+        if f"`{other}`" not in sections.get("Premises", "")
+    ]
+    return printed, wrong
 
 
 def main(arguments: list[str], top: Path = Path(__file__).resolve().parent.parent) -> int:
-    page = top / "docs" / "PROOFS.md"
-    text = page.read_text(encoding="utf-8")
-    tree = Tree(top)
     try:
-        found = promises(text)
-        explain(tree, found)
-        new = counted(tree, found, text)
-        if arguments == ["--counts"]:
-            page.write_text(new, encoding="utf-8")
-            text = new
-        write_pages(Page(tree, found, text), top / "out")
+        printed, wrong = check(top)
     except Fault as fault:
-        print(f"claims: {fault}")
-        return 1
-    stale = [
-        f"PROOFS.md:{number}: {line.rpartition(' | ')[2] or line}"
-        for number, (line, other) in enumerate(zip(new.splitlines(), text.splitlines()), 1)
-        if line != other
-    ]
-    remedy = " (scripts/claims.py --counts writes them)" if stale else ""
+        printed, wrong = [], [str(fault)]
+    if arguments == ["--print"]:
+        print("\n".join(printed[1:]))
     print(
-        "\n".join(
-            [*stale, f"claims: {len(found)} promises, {len(stale)} with other numbers{remedy}"]
-        )
+        "\n".join([*wrong, f"claims: {len(wrong)} faults"]), file=sys.stderr if arguments else None
     )
-    return 1 if stale else 0
+    return 1 if wrong else 0
 
 
 if __name__ == "__main__":

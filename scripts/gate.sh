@@ -142,7 +142,6 @@ if [ -x "$program" ]; then
     step 'stale mutants' 900 bash -c 'needs python3 && scripts/stale_mutants.py'
     step 'names in the pages' 900 bash -c 'needs python3 && python3 scripts/test_docs.py && scripts/docs.py'
     step lint 900 scripts/lint.sh
-    step columns 60 bash -c 'needs python3 && scripts/columns.py'
     step claims 900 bash -c 'needs python3 && python3 scripts/test_claims.py && scripts/claims.py'
     step 'out of memory' 900 bash -c 'needs python3 && python3 scripts/test_out_of_memory.py && scripts/out_of_memory.py'
     step 'rows against the second reading' 900 bash -c 'needs python3 && python3 fuzz/rows.py'

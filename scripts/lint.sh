@@ -1,6 +1,7 @@
 #!/usr/bin/env bash
 # scripts/lint.sh: checks the layout of Python with black, its names with pyflakes and its types with mypy, shell scripts
-# with shellcheck, and that the commands in tools/ are Python 3.7. A tool that is missing is skipped with a line.
+# with shellcheck, that the commands in tools/ are Python 3.7, and that code, contracts and definitions have at most 100
+# columns. A tool that is missing is skipped with a line.
 set -u
 cd "$(dirname "$0")/.." || exit 2
 failed=0
@@ -51,5 +52,11 @@ for path in sys.argv[1:]:
     ast.parse(pathlib.Path(path).read_bytes(), path, feature_version=(3, 7))' "${commands[@]}"
 fi
 if has shellcheck shellcheck; then passes shellcheck "${shell[@]}"; fi
+
+# Imports in src/ may be wider, as `rt fmt` lays them out. Proofs may be too: nobody has to read them.
+wide() { LC_ALL=C.UTF-8 grep -rnE "--include=$1" '^.{101}' crates/*/"$2"; } # PATTERN FOLDER
+if { wide '*.rt' src | grep -vE '^[^:]*:[0-9]+: *((pub|ghost) )?use '; } || wide '*.antt' specs; then
+    echo 'lint: lines have more than 100 columns' && failed=1
+fi
 echo "lint: ${#python[@]} files in Python, ${#shell[@]} in shell"
 exit $failed

@@ -4,91 +4,53 @@ from __future__ import annotations
 
 import contextlib
 import io
-import shutil
 import tempfile
 import unittest
 from pathlib import Path
 
 import claims
 
+SIZES = "crates/high/src/sizes.rt"
+PAGE = "docs/PROOFS.md"
 FILES = {
-    "crates.txt": "low:\nhigh: low\n",
-    "crates/low/src/lib.rt": """//! Trees.
-pub use kinds::Kind;
-/// How deep a tree may be.
-pub const MOST: u64 = 9;
-
-mod kinds;
-""",
-    "crates/low/src/kinds.rt": """//! Kinds.
-
-/// The kind of a tree.
-#[derive(Clone, Copy)]
-pub enum Kind {
-    /// No branch.
-    Leaf,
-    Branch { size: u64 },
-}
-
-impl PartialEq for Kind {
-    ghost use Rattle.low.specs.Trees.{same_kind};
-
+    "crates.txt": "low:\nhigh staticlib: low clap\n",
+    "crates/low/src/lib.rt": """//! Kinds.
+impl<'a, T: Into<u8>> PartialEq
+    for Kind<'a, T>
+{
     ghost eq = { same_kind };
 
-    ghost laws = { Prim.search (rules) };
+    fn eq(&self, other: &Self) -> bool {
+        true
+    }
 }
+
+/// Nothing calls it.
+fn law()
+    ensures { True }
+{}
 """,
-    "crates/low/specs/Trees.antt": """-- Trees.
-use Rattle.std.specs.Prelude.{◌≡◌, ℕ, suc, Bool, true, false, length}
-use Rattle.low.specs.declared.kinds.Kind.{Kind}
-use Rattle.low.specs.declared.kinds.Kind.TheVariants as kind
+    SIZES: """//! Sizes.
+use clap::Command;
 
--- a tree, and the trees below it
-mutual
-  pub data Tree : Type 0 where
-    tree : Trees → Tree
-
-  pub data Trees : Type 0 where
-    none : Trees
-    more : Tree → Trees → Trees
-
-abbrev mutual
-  -- how many
-  pub size : Tree → ℕ
-  size (tree ts) = suc (sizes ts)
-
-  pub sizes : Trees → ℕ
-  sizes none = 0
-  sizes (more t ts) = let length = sizes ts in size t
-
--- nothing cites it
-abbrev pub unused : ℕ
-unused = 1
-
-module _ {A : Type 0} where
-  pub record IsKind (a b : A) (kind : Kind) : Type 0 where
-    pub same : a ≡ b
-
-abbrev pub same_kind : Kind → Kind → Bool
-same_kind kind.Leaf kind.Leaf = true
-same_kind a other = false
-""",
-    "crates/high/src/lib.rt": """//! Sizes.
-ghost use Rattle.std.specs.Prelude.{◌≡◌, ◌≤◌};
-ghost use Rattle.low.specs.Trees.{IsKind};
-ghost use Rattle.high.specs.Laws.{Law};
-
-use low::{Kind, MOST};
-
-/// What measures.
 pub trait Measure {
-    // The measure.
     ghost measure: { Self → ℕ };
 
-    ghost use Rattle.std.specs.Prelude.{ℕ};
-
+    /// The least one.
     fn least(&self) -> u64
         ensures { result ≤ measure self.now };
+}
+
+impl Kind {
+    pub(crate) fn of(self) -> u64
+        ensures of { result ≡ 0 }
+    {
+        0
+    }
+
+    pub fn none(self) -> u64 {
+        0
+    }
 }
 
 /// The law.
@@ -97,40 +59,29 @@ pub fn law()
 {}
 
 /// The measure, at most `MOST`.
-pub fn measured<M: Measure>(it: &M, kind: Kind) -> u64
+pub extern "C" fn measured<M: Measure>(
+    it: &M,
+) -> u64
     requires { M.measure it.now ≤ MOST }
     // The measure itself.
-    ensures measure { result ≡ M.measure it.now }
-    ensures kind { IsKind it it kind }
+    ensures measure { result ≡ M.measure it.now
+        where n = 0 }
+    // Its kind.
+    ensures kind { IsKind it }
 {
     it.least()
 }
-
-/// Kinds are equal by content.
-pub fn kinds()
-    ensures { ⟦<Kind as PartialEq>⟧.eq ≡ ⟦<Kind as PartialEq>⟧.eq }
-{}
 """,
-    "crates/high/specs/Laws.antt": """-- Laws.
-use Rattle.std.specs.Prelude.{◌≡◌}
-use Rattle.low.specs.Trees.{Tree, size}
-
-abbrev pub Law : Type 0
-Law = (t u : Tree) → t ≡ u → size t ≡ size u
-""",
-    "docs/PROOFS.md": """# Proofs
-
-In all 0 definitions, 0 lines; 0 of them, 0 lines, serve several promises.
+    PAGE: """# Proofs
 
 ## Sizes
 
-promise | contract | rests on
----|---|---
-every function is safe | — |
-equal trees have equal sizes | `law` | 0/0
-it is the measure | `high::measured: measure` | 0/0
-kinds are equal by content | `kinds` | 0/0
-kinds are alike | `measured: kind`, `Kind as PartialEq` | 0/0
+promise | contract
+---|---
+every function is safe | —
+equal trees have equal sizes | `law`
+it is the measure | `high::measured: measure`, `Measure::least`
+kinds are equal by content | `Kind as PartialEq`, `Kind::of: of` (private)
 
 ## Only tested
 
@@ -138,121 +89,87 @@ kinds are alike | `measured: kind`, `Kind as PartialEq` | 0/0
 
 ## Premises
 
-Memory.
+Memory, and `clap`.
 """,
 }
+PRINTED = """# every function is safe
+
+# equal trees have equal sizes
+
+crates/high/src/sizes.rt:25
+pub fn law()
+    ensures { Law }
+
+# it is the measure
+
+crates/high/src/sizes.rt:30
+pub extern "C" fn measured<M: Measure>(
+    it: &M,
+) -> u64
+    requires { M.measure it.now ≤ MOST }
+    // The measure itself.
+    ensures measure { result ≡ M.measure it.now
+        where n = 0 }
+
+crates/high/src/sizes.rt:8
+    fn least(&self) -> u64
+        ensures { result ≤ measure self.now };
+
+# kinds are equal by content
+
+crates/low/src/lib.rt:2
+impl<'a, T: Into<u8>> PartialEq
+    for Kind<'a, T>
+{
+    ghost eq = { same_kind };
 
 
-TREES = "crates/low/specs/Trees.antt"
+crates/high/src/sizes.rt:13
+    pub(crate) fn of(self) -> u64
+        ensures of { result ≡ 0 }
+"""
+# What is said when a text of a file is another one.
+FAULTS = [
+    (PAGE, "`law`", "`laws`", "PROOFS.md:8: 0 items are laws"),
+    (PAGE, "`law`", "`low::law`", "PROOFS.md:8: law is private"),
+    (PAGE, "`law`", "law", "PROOFS.md:8: not SENTENCE | CONTRACT"),
+    (PAGE, "`law`", "`a law`", "PROOFS.md:8: `a law` does not name a contract"),
+    (PAGE, "`law`", "`law`, `Kind::none`", "PROOFS.md:8: none has no clause"),
+    (PAGE, "`law`", "`law` (private)", "PROOFS.md:8: law is not private"),
+    (PAGE, "of` (private)", "of`", "PROOFS.md:10: of is private"),
+    (PAGE, "high::measured", "low::measured", "PROOFS.md:9: 0 items are low::measured"),
+    (PAGE, "as PartialEq", "as Eq", "PROOFS.md:10: 0 items are Kind"),
+    (SIZES, "ensures measure", "ensures other", "PROOFS.md:9: measured has no clause measure"),
+    (SIZES, "pub trait", "trait", "PROOFS.md:9: least is private"),
+    ("crates/low/src/lib.rt", "fn law", "pub fn law", "PROOFS.md:8: 2 items are law"),
+    (PAGE, "`clap`", "clap", "the premises in PROOFS.md do not name `clap`"),
+    (PAGE, "## Only tested", "## Other", "PROOFS.md has no section Only tested"),
+]
 
 
 class Claims(unittest.TestCase):
-    def setUp(self) -> None:
-        self.top = Path(tempfile.mkdtemp())
-        self.addCleanup(shutil.rmtree, self.top, ignore_errors=True)
-        for name, text in FILES.items():
-            path = self.top / name
-            path.parent.mkdir(parents=True, exist_ok=True)
-            path.write_text(text, encoding="utf-8")
-        self.run_claims(0, "--counts")
+    def printed(self, status: int, changes: dict[str, str], *arguments: str) -> str:
+        """Runs the script on the tree with these changes; returns what it prints."""
+        with tempfile.TemporaryDirectory() as folder:
+            for name, text in {**FILES, **changes}.items():
+                (Path(folder) / name).parent.mkdir(parents=True, exist_ok=True)
+                (Path(folder) / name).write_text(text, encoding="utf-8")
+            out = io.StringIO()
+            with contextlib.redirect_stdout(out), contextlib.redirect_stderr(io.StringIO()):
+                self.assertEqual(status, claims.main([*arguments], Path(folder)), out.getvalue())
+        return out.getvalue()
 
-    def run_claims(self, status: int, *arguments: str) -> str:
-        """Runs the script on the tree; returns what it prints."""
-        printed = io.StringIO()
-        with contextlib.redirect_stdout(printed):
-            self.assertEqual(status, claims.main(list(arguments), self.top), printed.getvalue())
-        return printed.getvalue()
+    def test_contracts_that_exist_are_accepted_and_printed(self) -> None:
+        self.assertEqual("claims: 0 faults\n", self.printed(0, {}))
+        self.assertEqual(PRINTED, self.printed(0, {}, "--print"))
 
-    def read(self, name: str) -> str:
-        return (self.top / name).read_text(encoding="utf-8")
-
-    def change(self, name: str, old: str, new: str) -> None:
-        text = self.read(name)
-        self.assertIn(old, text)
-        (self.top / name).write_text(text.replace(old, new, 1), encoding="utf-8")
-
-    def test_each_definition_is_printed_once_before_its_users(self) -> None:
-        self.run_claims(0)
-        text = self.read("out/claims.txt")
-        tree, size, law = "    mutual\n", "    abbrev mutual\n", "abbrev pub Law"
-        kind, same = "pub enum Kind", "abbrev pub same_kind"
-        for part in (tree, size, law, kind, same, "pub const MOST", "pub trait Measure"):
-            self.assertEqual(1, text.count(part), part)
-        self.assertTrue(text.index(tree) < text.index(size) < text.index(law))
-        self.assertLess(text.index(kind), text.index(same))
-        self.assertNotIn("unused", text)
-        self.assertIn("module _ {A : Type 0} where\n      pub record IsKind", text)
-
-    def test_contracts_have_the_named_clauses_alone(self) -> None:
-        text = self.read("out/claims.txt")
-        measured = text[text.index("it is the measure") : text.index("kinds are equal")]
-        self.assertIn("crates/high/src/lib.rt:25", measured)
-        self.assertIn("// The measure itself.\n        ensures measure", measured)
-        self.assertNotIn("IsKind", measured)
-        self.assertNotIn("Prim.search", text)
-        self.assertIn("The prover shows it of every function", text)
-
-    def test_the_end_has_what_is_assumed_and_the_library(self) -> None:
-        end = self.read("out/claims.txt").partition("## Only tested")[2]
-        self.assertIn("- Speed.\n\n## Premises\n\nMemory.\n\n## Names of the library", end)
-        self.assertIn("Rattle.std.specs.Prelude: Bool, false, suc, true, ℕ, ◌≡◌, ◌≤◌", end)
-
-    def test_names_are_links(self) -> None:
-        page = self.read("out/claims.html")
-        self.assertIn('<a href="#d1">Tree</a>) → t ≡ u → <a href="#d2">size</a>', page)
-        self.assertEqual(page.count('id="d1"'), 1)
-
-    def test_counts_are_held_against_the_page(self) -> None:
-        page = self.read("docs/PROOFS.md")
-        self.assertIn("`law` | 5/14", page)
-        self.assertIn("In all 11 definitions, 34 lines; 4 of them, 15 lines", page)
-        self.change("docs/PROOFS.md", "5/14", "5/13")
-        self.assertIn("PROOFS.md:10: 5/14", self.run_claims(1))
-
-    def test_what_is_not_explained_is_refused(self) -> None:
-        for name, old, new, said in (
-            (
-                TREES,
-                "suc (sizes",
-                "suc (lengths",
-                "Trees.antt:15: size: nothing says what lengths is",
-            ),
-            (
-                "crates/high/specs/Laws.antt",
-                "size}",
-                "depth as size}",
-                "there is no depth in Rattle.low.specs.Trees",
-            ),
-            (
-                "crates/low/src/kinds.rt",
-                "Leaf,",
-                "Twig,",
-                "there is no Kind.Leaf in low/src/kinds.rt",
-            ),
-            (
-                "crates/high/src/lib.rt",
-                "M.measure it.now ≤ MOST",
-                "it.weight ≤ MOST",
-                "no type has a field weight",
-            ),
-            (
-                "crates/high/src/lib.rt",
-                "ensures measure",
-                "ensures other",
-                "high::measured has no clause measure",
-            ),
-            ("docs/PROOFS.md", "`law`", "`laws`", "0 functions are laws"),
-            (TREES, "sizes none = 0", "lengths none = 0", "nothing says what lengths is"),
-            (TREES, "sizes (more t ts)", "sizes (many t ts)", "nothing says what many is"),
-            (TREES, "Rattle.std.specs", "Rattle.other.specs", "do not name `other`"),
-            ("docs/PROOFS.md", "## Premises", "## Other", "PROOFS.md has no section Premises"),
-        ):
+    def test_what_does_not_exist_is_said(self) -> None:
+        for name, old, new, said in FAULTS:
             with self.subTest(new):
-                before = self.read(name)
-                self.change(name, old, new)
-                printed = self.run_claims(1)
-                (self.top / name).write_text(before, encoding="utf-8")
+                self.assertIn(old, FILES[name])
+                printed = self.printed(1, {name: FILES[name].replace(old, new, 1)})
                 self.assertIn(said, printed)
+                self.assertIn("claims: 1 faults", printed)
 
 
 if __name__ == "__main__":
