@@ -11,7 +11,7 @@
 ## make fuzz [SECONDS=60] [SEED=1]   compares the program with a second reading of the formats
 ## make tools, examples, words, new-user   try the commands in tools/ and the README, the bindings, arguments that are not
 ##                            UTF-8, and what a new user does on a clean checkout
-## make growths, growths-lib, hostile, bench   each allocation failing in turn; hostile input; time and memory
+## make growths, hostile, bench   each allocation failing in turn; hostile input; time and memory
 ## make dist, make deb        a tar file, and Debian packages, for machines without the toolchain
 ## make clean                 removes what was built and proved
 PREFIX ?= /usr/local
@@ -62,13 +62,11 @@ words: plistconv
 
 bench: plistconv
 	python3 bench/bench.py ./plistconv --plot docs/benchmarks.svg
-	python3 bench/checks.py ./plistconv
-	python3 bench/print.py ./plistconv
+	python3 bench/commands.py ./plistconv
 
 hostile: plistconv
 	python3 bench/hostile.py ./plistconv
 	python3 bench/refusals.py ./plistconv
-	python3 bench/collisions.py ./plistconv
 	python3 scripts/limits.py ./plistconv --large
 
 growths: plistconv lib

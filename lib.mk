@@ -1,7 +1,6 @@
 # The C library: `make lib` builds libplistconv.a and libplistconv.so, which export the functions of
 # include/plistconv.h alone; `make install-lib` installs them with the header and a file for pkg-config;
-# `make examples` builds and runs the examples; `make growths-lib` makes each allocation fail in turn. The toolchain's
-# C library is in its folder c/.
+# `make examples` builds and runs the examples. The toolchain's C library is in its folder c/.
 CC ?= cc
 RT_LIBC = $(or $(shell file=$$(dirname "$$(dirname "$$(realpath "$$(command -v $(RT))")")")/c/liblibc_c.a; [ ! -f "$$file" ] || echo "$$file"),\
   $(error there is no c/liblibc_c.a beside the folder of $(RT)))
@@ -10,7 +9,7 @@ INCLUDEDIR ?= $(PREFIX)/include
 PC_PREFIX ?= $(PREFIX)
 PROVED_LIB := crates/plistconv_c/out/libplistconv_c.a
 
-.PHONY: lib install-lib examples growths-lib
+.PHONY: lib install-lib examples
 
 lib: libplistconv.a libplistconv.so
 
@@ -22,7 +21,3 @@ install-lib: $(call built,libplistconv.a) $(call built,libplistconv.so)
 
 examples: lib
 	examples/test
-
-growths-lib: lib
-	$(CC) -std=c99 -Iinclude examples/c/calls.c libplistconv.a -o out/calls
-	python3 bench/refused.py out/calls < /dev/null

@@ -3,6 +3,7 @@
 
 usage: bench/bench.py [PLISTCONV] [--runs N] [--only NAME,..] [--small]
                       [--plot FILE] [--instructions]
+       bench/bench.py PLISTCONV --other PLISTCONV [--command ARGUMENTS] ..
 
 The programs run in turns, N times (default 5), so that other work on the machine affects all of
 them alike. Seconds are user and system time of the processor, the least of these runs. Memory is
@@ -17,8 +18,12 @@ leaves out the whole. Growth itself is measured separately: in each turn the six
 sixteen times and the whole once. --plot writes a plot of time and memory against size.
 --instructions also counts instructions of plistconv with callgrind (Debian's valgrind), which other
 work on the machine does not affect. Files are made in separate processes.
+
+--other measures another plistconv in place of the peers, on whole files and on those of shapes.py,
+without targets. --command has other arguments than `convert binary1`.
 """
 import argparse
+import json
 import os
 import statistics
 import subprocess
@@ -27,10 +32,10 @@ import tempfile
 
 import files
 import peers
-import plot
+import shapes
 from measure import HERE, MOST, Measure, instructions
 
-OURS, BACK = "plistconv", "plistconv, to a text"
+OURS, BACK, OTHER = "plistconv", "plistconv, to a text", "the other"
 SCALES = (1 / 16, 1 / 4, 1)
 COPY, CRATE, OPENSTEP = "read and write", "plist (Rust)", "openstep_plist"
 
@@ -50,8 +55,9 @@ class Files:
 
 
 def best(runs):
-    """Returns the least processor time and the greatest size, or None if a run failed."""
-    if any(run.status != 0 for run in runs):
+    """Returns the least processor time and the greatest size, or None if a run failed (1 is an
+    answer of `check`)."""
+    if any(run.status > 1 for run in runs):
         return None
     return min(run.processor for run in runs), max(run.octets for run in runs)
 
@@ -62,14 +68,17 @@ def measured(measure, programs, source, target, count):
     for _ in range(count):
         for name, words in programs.items():
             # A run that takes seconds is not repeated, nor is one that failed.
-            if runs[name] and (runs[name][0].status != 0 or runs[name][0].processor > 5):
+            if runs[name] and (runs[name][0].status > 1 or runs[name][0].processor > 5):
                 continue
             path = target(OURS) if name == BACK else source
-            runs[name].append(measure.run([*words, path, target(name)], subprocess.DEVNULL))
+            into = [target(name)] if "convert" in words else []
+            runs[name].append(
+                measure.run([*words, path, *into], subprocess.DEVNULL, subprocess.DEVNULL)
+            )
     return {name: best(found) for name, found in runs.items()}
 
 
-def row(name, scale, octets, figures):
+def row(name, octets, figures):
     """Prints a row for each program."""
     ours = figures[OURS][0]
     for program, found in figures.items():
@@ -92,19 +101,17 @@ def one(measure, program, programs, made, name, scale, count):
     octets = os.path.getsize(source)
     figures = measured(measure, programs, source, lambda of: made.path(name, scale, of), count)
     if figures[OURS] is None:
-        raise SystemExit(f"{name}: `{program} convert binary1` does not end with 0.")
+        raise SystemExit(f"{name}: {program} does not succeed.")
     for other, found in figures.items():
+        target = made.path(name, scale, other)
         if found is None:
-            wrong.append(
-                (other, f"{name} at {scale}: {other} does not end with 0 within {MOST} seconds")
-            )
-        elif not says_the_same(measure, program, source, made.path(name, scale, other)):
+            wrong.append((other, f"{name} at {scale}: {other} fails, or takes over {MOST} seconds"))
+        elif "convert" in programs[OURS] and not says_the_same(measure, program, source, target):
             wrong.append((other, f"{name} at {scale}: {other} does not write the same value"))
             figures[other] = None
-    row(name, scale, octets, figures)
-    for other in figures:
-        if os.path.exists(made.path(name, scale, other)):
-            os.remove(made.path(name, scale, other))
+        if os.path.exists(target):
+            os.remove(target)
+    row(name, octets, figures)
     return octets, figures, wrong
 
 
@@ -178,6 +185,8 @@ def targets(figures, growths):
 def read_words():
     words = argparse.ArgumentParser()
     words.add_argument("program", nargs="?", default="./plistconv")
+    words.add_argument("--other")
+    words.add_argument("--command", default="convert binary1")
     words.add_argument("--runs", type=int, default=5)
     words.add_argument("--only", default="", help="names of files, with commas between")
     words.add_argument("--small", action="store_true")
@@ -186,50 +195,76 @@ def read_words():
     return words.parse_args()
 
 
+def kinds(words, folder):
+    """Returns the files to measure, each with the programs that take it."""
+    under = lambda path: [os.path.abspath(path), *words.command.split()]
+    first = {OURS: under(words.program)}
+    if words.other:
+        every = [*files.BINARY, *files.TEXTS, *shapes.BINARY, *shapes.TEXTS]
+        found = dict.fromkeys(every, {**first, OTHER: under(words.other)})
+    else:
+        of_binary = {**first, **peers.found(peers.OF_BINARY, folder)}
+        of_text = {**first, **peers.found(peers.OF_TEXT, folder)}
+        of_text[BACK] = [os.path.abspath(words.program), "convert", "openstep"]
+        found = {**dict.fromkeys(files.BINARY, of_binary), **dict.fromkeys(files.TEXTS, of_text)}
+    names = words.only.split(",") if words.only else [*found]
+    return {name: found[name] for name in names}
+
+
+def plot(figures, path):
+    """Has plot.py make the plot."""
+    rows = [
+        (name, program, octets, *figure)
+        for (name, _), (octets, found) in figures.items()
+        for program, figure in found.items()
+        if figure is not None and program != BACK
+    ]
+    words = [peers.python(), os.path.join(HERE, "plot.py"), path]
+    if subprocess.run(words, input=json.dumps(rows).encode(), check=False).returncode:
+        print("No plot is made: it needs python3-matplotlib.")
+
+
 def main():
     words = read_words()
     program = os.path.abspath(words.program)
-    names = [*files.BINARY, *files.TEXTS]
-    names = [name for name in names if not words.only or name in words.only.split(",")]
     figures, growths, wrong = {}, {}, []
+    scales = SCALES[:2] if words.small else SCALES
+    scales = scales[-1:] if words.other else scales
     with tempfile.TemporaryDirectory() as folder:
-        measure, made = Measure(folder), Files(folder)
-        ours = {OURS: [program, "convert", "binary1"]}
-        of_binary = {**ours, **peers.found(peers.OF_BINARY, folder)}
-        of_text = {
-            **ours,
-            **peers.found(peers.OF_TEXT, folder),
-            BACK: [program, "convert", "openstep"],
-        }
+        measure, made, programs = Measure(folder), Files(folder), kinds(words, folder)
         print("| file | octets | program | seconds | ours / its | MB | memory / input |")
         print("|---|---|---|---|---|---|---|")
-        for name in names:
-            for scale in SCALES[:2] if words.small else SCALES:
-                programs = of_binary if name in files.BINARY else of_text
-                *found, more = one(measure, program, programs, made, name, scale, words.runs)
+        for name, those in programs.items():
+            for scale in scales:
+                *found, more = one(measure, program, those, made, name, scale, words.runs)
                 figures[name, scale], wrong = found, wrong + more
-            if not words.small:
-                growths[name] = growth(measure, ours[OURS], made, name, words.runs)
+            if scales == SCALES:
+                growths[name] = growth(measure, those[OURS], made, name, words.runs)
         if words.instructions:
-            counted(program, made, figures)
-    print()
-    for _, line in wrong:
-        print(line + ".\n")
+            counted(programs, made, figures)
+    print("\n" + "".join(line + ".\n\n" for _, line in wrong))
     if words.plot:
-        with open(words.plot, "w", encoding="utf-8") as picture:
-            picture.write(plot.picture(figures))
-    missed = targets(figures, growths)
+        plot(figures, words.plot)
+    missed = 0 if words.other else targets(figures, growths)
     return 1 if missed or any(program in (OURS, BACK) for program, _ in wrong) else 0
 
 
-def counted(program, made, figures):
-    """Prints how many instructions plistconv takes."""
-    print("\n| file | octets | instructions, millions | for each octet |\n|---|---|---|---|")
+def counted(programs, made, figures):
+    """Prints how many instructions plistconv takes, and the other."""
+    print("\n| file | octets | program | instructions, millions | for each octet | ours / its |")
+    print("|---|---|---|---|---|---|")
     for (name, scale), (octets, _) in figures.items():
-        source = made.path(name, scale)
-        count = instructions([program, "convert", "binary1", source, source + OURS])
-        if count is not None:
-            print(f"| {name} | {octets:,} | {count / 1e6:.1f} | {count / octets:.1f} |", flush=True)
+        source, ours = made.path(name, scale), None
+        for program, words in programs[name].items():
+            into = [source + program] if "convert" in words else []
+            count = instructions([*words, source, *into]) if program in (OURS, OTHER) else None
+            if count is not None:
+                ours = ours or count
+                print(
+                    f"| {name} | {octets:,} | {program} | {count / 1e6:.1f} | {count / octets:.1f} "
+                    f"| {ours / count:.3f} |",
+                    flush=True,
+                )
 
 
 if __name__ == "__main__":

@@ -1,4 +1,4 @@
-"""The binary files and texts that bench.py measures, at any size.
+"""The binary files and texts that bench.py measures, with those of shapes.py, at any size.
 
 usage: python3 bench/files.py NAME SCALE PATH   (makes one file, in a separate process)
 """
@@ -8,6 +8,7 @@ import random
 import string
 import sys
 
+import shapes
 import texts
 
 
@@ -92,11 +93,13 @@ TEXTS = {
 
 
 def make(name, scale, path):
+    makers = {**TEXTS, **shapes.TEXTS, **BINARY, **shapes.BINARY}
+    made = makers[name](scale)
     with open(path, "wb") as target:
-        if name in BINARY:
-            plistlib.dump(BINARY[name](scale), target, fmt=plistlib.FMT_BINARY, sort_keys=False)
+        if name in TEXTS or name in shapes.TEXTS:
+            target.write(made)
         else:
-            target.write(TEXTS[name](scale))
+            plistlib.dump(made, target, fmt=plistlib.FMT_BINARY, sort_keys=False)
 
 
 if __name__ == "__main__":

@@ -25,6 +25,7 @@ With --short the program gets only a few inputs, and only a few tests run, which
 each call that allocates. That takes seconds. `rt test` in a crate builds its tests. The library
 that makes allocations fail is bench/refuse.c, built with cc.
 """
+import argparse
 import collections
 import glob
 import os
@@ -34,8 +35,8 @@ import sys
 import tempfile
 import time
 
-import refused
-from hostile import head, joined, number as octets_of
+from hostile_files import head, joined, number as octets_of
+from measure import HERE
 
 MOST = 2_000
 BEFORE = b"as it was"
@@ -180,21 +181,45 @@ class Refusing:
     def __init__(self, folder):
         self.folder, self.out = folder, os.path.join(folder, "out")
         self.library, self.count = os.path.join(folder, "refuse.so"), os.path.join(folder, "count")
-        source = os.path.join(refused.HERE, "refuse.c")
-        subprocess.run(
-            ["cc", "-shared", "-fPIC", "-O1", "-o", self.library, source, "-ldl"], check=True
-        )
+        words = ["cc", "-shared", "-fPIC", "-O1", "-o", self.library, HERE + "/refuse.c", "-ldl"]
+        subprocess.run(words, check=True)
 
     def run(self, words, octets, number):
         """Returns the status, the output and the content of `out`, then standard error and the
-        allocation count."""
+        allocation count. Fails the allocation of this number, or none if it is 0."""
         with open(self.out, "wb") as file:
             file.write(BEFORE)
-        status, output, complaint, allocations = refused.run(
-            words, octets, self.library, number, self.count
+        if os.path.exists(self.count):
+            os.remove(self.count)
+        more = {"LD_PRELOAD": self.library, "FAIL_AT": str(number), "FAIL_COUNT": self.count}
+        ran = subprocess.run(
+            words, input=octets, capture_output=True, env={**os.environ, **more}, timeout=60
         )
+        # A run that is aborted writes no count. It got at least to the failed allocation.
+        allocations = number
+        if os.path.exists(self.count):
+            with open(self.count, encoding="ascii") as count:
+                allocations = int(count.read())
         with open(self.out, "rb") as file:
-            return (status, output, file.read()), complaint, allocations
+            return (ran.returncode, ran.stdout, file.read()), ran.stderr, allocations
+
+    def each(self, words, octets, most):
+        """Yields the number, the ending and the standard error of each run in which one allocation
+        fails."""
+        number, allocations = 0, most
+        while number < allocations:
+            number += 1
+            ending, complaint, allocations = self.run(words, octets, number)
+            # A run that is aborted does not count the allocations after the refused one.
+            allocations = most if ending[0] < 0 else allocations
+            yield number, ending, complaint
+
+
+def report(name, counts):
+    """Prints how often runs ended in which way, and returns how many ended otherwise."""
+    told = ", ".join(f"{runs} runs ended {told}" for told, runs in sorted(counts.items()))
+    print(f"{name}: {told}", flush=True)
+    return counts["otherwise"]
 
 
 def is_wanting(ending, ample, path):
@@ -251,66 +276,39 @@ def program_runs(program, names):
         yield [program], INPUTS[name]
 
 
-def texts_to_254():
-    """Returns the canonical file of the array of the strings 000 to 254, of 2,085 bytes."""
-    texts = b"".join(b"\x53%03d" % text for text in range(255))
-    objects = head(0xA0, 255) + b"".join(octets_of(place, 2) for place in range(1, 256)) + texts
-    end = 8 + len(objects)
-    places = b"".join(octets_of(place, 2) for place in [8, *range(end - len(texts), end, 4)])
-    return (
-        b"bplist00"
-        + objects
-        + places
-        + bytes([0] * 6 + [2, 2])
-        + octets_of(256, 8)
-        + octets_of(0, 8)
-        + octets_of(end, 8)
-    )
+def texts_to_254(program):
+    """Returns the canonical file of the array of the strings 000 to 254."""
+    objects = [head(0xA0, 255) + bytes(range(1, 256)), *(b"\x53%03d" % text for text in range(255))]
+    return subprocess.run([program], input=joined(objects, 1), stdout=subprocess.PIPE).stdout
 
 
 def built(source, library, folder):
     """Builds a C program of this repository, with the library if there is one, and
     returns its path."""
-    top = os.path.join(refused.HERE, "..")
-    program = os.path.join(folder, os.path.basename(source)[: -len(".c")])
-    flags = ["-std=c99", "-D_POSIX_C_SOURCE=200809L", f"-I{top}/include"]
-    subprocess.run(
-        ["cc", *flags, f"{top}/{source}", *([library] if library else []), "-o", program],
-        check=True,
-    )
+    top, program = os.path.join(HERE, ".."), os.path.join(folder, os.path.basename(source)[:-2])
+    words = ["cc", "-std=c99", "-D_POSIX_C_SOURCE=200809L", f"-I{top}/include", f"{top}/{source}"]
+    subprocess.run([*words, *([library] if library else []), "-o", program], check=True)
     return program
 
 
 def refuse_in_calls(library, refusing):
     """Returns how many runs of the calls of the C library do not end as they must."""
-    program, wrong, number, allocations = (
-        built("examples/c/calls.c", library, refusing.folder),
-        0,
-        0,
-        1,
-    )
-    while number <= allocations:
-        (status, *_), _, allocations = refusing.run([program], b"", number)
-        if status not in ((0, 5) if number else (0,)):
-            wrong += 1
-            print(f"the calls of the C library, allocation {number}: {status}", flush=True)
-        number += 1
-    print(f"the calls of the C library: {allocations} allocations", flush=True)
-    return wrong
+    program, counts = built("examples/c/calls.c", library, refusing.folder), collections.Counter()
+    (status, *_), _, allocations = refusing.run([program], b"", 0)
+    statuses = [ending[0] for _, ending, _ in refusing.each([program], b"", allocations)]
+    counts.update(f"with {it}" if it in (0, 5) else "otherwise" for it in statuses)
+    return report("the calls of the C library", counts) + (status != 0)
 
 
-def refuse_in_check(library, refusing):
+def refuse_in_check(ours, library, refusing):
     """Returns how many runs of plistconv_check do not end as they must."""
-    program, octets = built("bench/check.c", library, refusing.folder), texts_to_254()
+    program, octets = built("bench/check.c", library, refusing.folder), texts_to_254(ours)
     wrong, ample = 0, (0, b"canonical\n", BEFORE)
     ending, _, allocations = refusing.run([program], octets, 100)
-    print(
-        f"plistconv_check of the texts 000 to 254: {allocations} allocations; with the 100th refused: {ending[:2]}"
-    )
+    print(f"plistconv_check: {allocations} allocations; with the 100th refused: {ending[:2]}")
     if ending != ample or not 0 < allocations < 100:
         wrong += 1
-    for number in range(1, allocations + 1):
-        ending, _, _ = refusing.run([program], octets, number)
+    for number, ending, _ in refusing.each([program], octets, allocations):
         if ending not in (ample, (5, b"refused 60\n", BEFORE)):
             wrong += 1
             print(f"plistconv_check, allocation {number}: {ending}", flush=True)
@@ -318,33 +316,23 @@ def refuse_in_check(library, refusing):
 
 
 def refuse_in_program(program, refusing, names):
-    wrong, endings = 0, collections.defaultdict(collections.Counter)
+    """Returns how many runs of the program do not end as they must."""
+    endings = collections.defaultdict(collections.Counter)
     for words, octets in program_runs(program, names):
         ample, _, allocations = refusing.run(words, octets, 0)
         kind = " ".join(words[1:3] if words[1:2] == ["convert"] else words[1:2]) or "no words"
         if kind in ("lint", "check") and len(words) > 3:
             kind += " of several files"
-        number = 0
-        while number < allocations:
-            number += 1
-            ending, complaint, allocations = refusing.run(words, octets, number)
+        for number, ending, complaint in refusing.each(words, octets, allocations):
             told = how_it_ended(words, ending, ample)
             endings[kind][told] += 1
             if told == "otherwise":
-                wrong += 1
-                status, *outputs = ending
+                outputs = [it[-200:] for it in (*ending[1:], complaint)]
                 print(
-                    f"{words[1:]}, {octets[:80]!r}, allocation {number}: {status}, {[it[-200:] for it in outputs]}, "
-                    f"{complaint[-200:]!r}",
+                    f"{words[1:]}, {octets[:80]!r}, allocation {number}: {ending[0]}, {outputs}",
                     flush=True,
                 )
-    for kind, counts in endings.items():
-        print(
-            f"{kind}: "
-            + ", ".join(f"{runs} runs ended {told}" for told, runs in sorted(counts.items())),
-            flush=True,
-        )
-    return wrong
+    return sum(report(kind, counts) for kind, counts in endings.items())
 
 
 def ending_of_test(ample, ending, complaint):
@@ -371,7 +359,7 @@ def refuse_in_growing(refusing):
 
 def tests_of(crate):
     """Returns the names of a crate's tests, module by module."""
-    root = os.path.join(refused.HERE, "..", "crates", crate, "src")
+    root = os.path.join(HERE, "..", "crates", crate, "src")
     for path in sorted(glob.glob(os.path.join(root, "**", "*.rt"), recursive=True)):
         module = os.path.relpath(path, root)[: -len(".rt")].replace(os.sep, "::")
         with open(path, encoding="utf-8") as source:
@@ -383,95 +371,63 @@ def refuse_in_tests(crate, refusing, only=None):
     """Returns how many runs of the tests do not end as they must; `only` are the
     beginnings of names."""
     counts, left_out = collections.Counter(), []
-    program = os.path.abspath(
-        os.path.join(refused.HERE, "..", "crates", crate, "out", crate + "_tests")
-    )
+    program = os.path.abspath(os.path.join(HERE, "..", "crates", crate, "out", crate + "_tests"))
     if not os.path.exists(program):
         print(f"tests of {crate}: skipped, not built, which `rt test` in crates/{crate} does")
         return 0
     names = [name for name in tests_of(crate) if only is None or name.startswith(only)]
     absent = [it for it in only or () if not any(name.startswith(it) for name in names)]
-    if absent:
-        print(f"tests of {crate}: there is no " + ", ".join(absent), flush=True)
-    wrong = len(absent)
+    wrong = [f"there is no {it}" for it in absent]
     for name in names:
-        begin = time.perf_counter()
-        ample, complaint, allocations = refusing.run([program, name], b"", 0)
+        words, begin = [program, name], time.perf_counter()
+        ample, _, allocations = refusing.run(words, b"", 0)
         is_long = time.perf_counter() - begin > 1 or allocations > MOST
         if only is None and (is_long or name.startswith(UNTOLD)):
             left_out.append(name)
             continue
-        if name == BUILDS and (
-            allocations <= 255 or refusing.run([program, name], b"", 100)[0][:2] == ample[:2]
-        ):
-            wrong += 1
-            print(
-                f"{crate} {name} makes {allocations} allocations, or does without the 100th",
-                flush=True,
-            )
-        number, most = 0, allocations
-        while number < allocations:
-            number += 1
-            ending, complaint, allocations = refusing.run([program, name], b"", number)
+        if name == BUILDS:
+            is_needed = refusing.run(words, b"", 100)[0][:2] != ample[:2]
+            if allocations <= 255 or not is_needed:
+                wrong.append(f"{name}: {allocations} allocations, and the 100th: {is_needed}")
+        for number, ending, complaint in refusing.each(words, b"", allocations):
             told = ending_of_test(ample, ending, complaint)
             counts[told] += 1
             if told == "otherwise":
-                wrong += 1
-                said = ending[1] + complaint
-                print(
-                    f"{crate} {name}, allocation {number}: {ending[0]}, {said[-200:]!r}", flush=True
-                )
-            # A run that is aborted does not count the allocations after the refused one.
-            if ending[0] < 0:
-                allocations = most
-    print(
-        f"tests of {crate}: "
-        + ", ".join(f"{runs} runs ended {told}" for told, runs in sorted(counts.items())),
-        flush=True,
-    )
+                said = (ending[1] + complaint)[-200:]
+                print(f"{crate} {name}, allocation {number}: {ending[0]}, {said!r}", flush=True)
     if left_out:
-        print(f"tests of {crate} left out: " + ", ".join(left_out), flush=True)
-    return wrong
+        print(f"tests of {crate} left out: {', '.join(left_out)}", flush=True)
+    for line in wrong:
+        print(f"tests of {crate}: {line}", flush=True)
+    return report(f"tests of {crate}", counts) + len(wrong)
+
+
+def built_tests():
+    """Returns the crates whose tests are built."""
+    found = glob.glob(os.path.join(HERE, "..", "crates", "*", "out", "*_tests"))
+    return sorted(path.split(os.sep)[-3] for path in found if os.path.isfile(path))
 
 
 def main():
-    words, library = sys.argv[1:], None
-    is_short = "--short" in words
-    if is_short:
-        words.remove("--short")
-    if "--library" in words:
-        at = words.index("--library")
-        library = os.path.abspath(words[at + 1])
-        del words[at : at + 2]
-    at = words.index("--tests") if "--tests" in words else len(words)
-    program = os.path.abspath(words[0] if at > 0 else "./plistconv")
-    crates = (
-        list(SHORT_TESTS)
-        if is_short
-        else words[at + 1 :]
-        or sorted(
-            path.split(os.sep)[-3]
-            for path in glob.glob(os.path.join(refused.HERE, "..", "crates", "*", "out", "*_tests"))
-            if os.path.isfile(path)
-        )
-    )
+    parser = argparse.ArgumentParser()
+    parser.add_argument("program", nargs="?", default="./plistconv")
+    parser.add_argument("--short", action="store_true")
+    parser.add_argument("--library", type=os.path.abspath)
+    parser.add_argument("--tests", nargs="*", metavar="CRATE")
+    words = parser.parse_args()
+    program, names = os.path.abspath(words.program), SHORT if words.short else INPUTS
+    tests = SHORT_TESTS if words.short else dict.fromkeys(words.tests or built_tests())
     with tempfile.TemporaryDirectory() as folder:
         refusing = Refusing(folder)
         os.chdir(folder)
         for name, octets in INPUTS.items():
             with open(name, "wb") as file:
                 file.write(octets)
-        wrong = refuse_in_growing(refusing)
-        wrong += (
-            refuse_in_check(library, refusing) + refuse_in_calls(library, refusing)
-            if library
-            else 0
-        )
-        wrong += refuse_in_program(program, refusing, SHORT if is_short else INPUTS)
-        wrong += sum(
-            refuse_in_tests(crate, refusing, SHORT_TESTS[crate] if is_short else None)
-            for crate in crates
-        )
+        wrong = refuse_in_growing(refusing) + refuse_in_program(program, refusing, names)
+        if words.library:
+            wrong += refuse_in_check(program, words.library, refusing)
+            wrong += refuse_in_calls(words.library, refusing)
+        wrong += sum(refuse_in_tests(crate, refusing, only) for crate, only in tests.items())
     print("each run ended as it should" if wrong == 0 else f"{wrong} runs ended otherwise")
     return 1 if wrong else 0
 

@@ -1,7 +1,6 @@
 #!/usr/bin/env python3
 """Measures what hostile input costs `plistconv`: files and texts that are refused, at three sizes
-that grow by a factor of two; small files that are accepted and encode large values; and the
-memory of each command.
+that grow by a factor of two, and the memory of each command.
 
 usage: bench/refusals.py [PLISTCONV]   (the program to measure, ./plistconv if not given)
 
@@ -9,15 +8,12 @@ Each answer must be the one listed here. Of the first table, a refusal may take 
 memory, and input of a few hundred bytes must be refused within 10 ms. If callgrind is installed
 (Debian's valgrind), the instructions of a refusal, less those of an empty run, must not grow more
 than 1.2 times as much as the bytes of its input. Time is processor time, the least of three runs.
-Of the second table, an accepted file may take at most 60 bytes of memory for each node, not
-counting the input and the output. Memory is the greatest resident size.
+Memory is the greatest resident size.
 
-The third table has the memory of each command for each byte of input, or in MB for small files that
-encode large values, and the most that is allowed. `same` compares two files, which differ in an
-unused byte, and its memory is divided by the bytes of both.
-
-A row or cell that fails ends with a cross, and the status is 1. Files are made in
-separate processes (--make).
+The other table has the memory of each command for each byte of input, or in MB for files that
+encode far larger values, and the most that is allowed. `same` compares two files, which differ in
+an unused byte, and its memory is divided by the bytes of both. A row or cell that fails ends with a
+cross, and the status is 1. Files are made in separate processes (--make).
 """
 import collections
 import itertools
@@ -26,7 +22,8 @@ import subprocess
 import sys
 import tempfile
 
-from hostile import file, head, joined, lists_of, number, words_of, write
+from hostile import words_of, write
+from hostile_files import file, head, joined, lists_of, number
 from measure import Measure, instructions
 
 MIB = 1 << 20
@@ -94,21 +91,6 @@ REFUSED = {
 }
 
 
-# Files that are accepted, with the number of nodes of their values.
-
-
-def fan(count, object):
-    return joined([head(0xA0, count) + b"\x01" * count, object], 1)
-
-
-ACCEPTED = {
-    "16,777,215 references to a boolean": (lambda: fan(16_777_215, b"\x09"), 16_777_216),
-    "22 levels of arrays, each named twice": (lambda: arrays_named_twice(22), 2**22 - 1),
-    "24 levels of arrays, each named twice": (lambda: arrays_named_twice(24), 2**24 - 1),
-    "1 MiB of data, 1,024 times": (lambda: fan(1024, head(0x40, MIB) + bytes(MIB)), 1025),
-}
-
-
 # Files and texts whose memory is measured.
 
 
@@ -158,12 +140,18 @@ def narrow_offsets(size):
     return body + bytes([8, text]) + bytes([boolean]) * (size - 2) + trailer
 
 
-MEASURED = ("lint", "binary1", "openstep", "print", "same")
+def fan(count, item):
+    """Returns an array of so many references to one object."""
+    return joined([head(0xA0, count) + b"\x01" * count, item], 1)
 
+
+CHECK = "check of its canonical file"
+MEASURED = ("lint", "binary1", "openstep", "print", "same", CHECK)
+MOST_MB = 32
+
+# The input, the beginning of the answer, the most bytes of memory for each byte of input, or the most
+# MB of some commands, and the answer of `convert openstep` if that is another one.
 Row = collections.namedtuple("Row", "make answer most openstep", defaults=(None,))
-
-# The input, the beginning of the answer, the most bytes of memory for each byte of input, and the
-# answer of `convert openstep` if that is another one.
 MEMORY = {
     "short dictionaries, then an error": Row(lambda: often(b"{a;},", 4_000_000), "refused 31", 12),
     "empty arrays, then an error": Row(lambda: often(b"(),", 4_000_000), "refused 31", 12),
@@ -183,25 +171,14 @@ MEMORY = {
     ),
     # (12 bytes are kept for each object, here of one byte, and the file itself is in memory)
     "offsets of one byte": Row(lambda: narrow_offsets(16_000_000), "", 14, "refused 40"),
+    # Files that encode far larger values: one and a half times what these took.
+    "shared dictionaries": Row(lambda: shared_dictionaries(20), "", {"binary1": 35, "same": 100}),
+    "shared arrays": Row(lambda: arrays_named_twice(24), "", {"binary1": 400, "same": 760}),
 }
-
-# Small files that encode large values, and the most MB of memory of the commands that keep the
-# canonical file and some bytes for each node: one and a half times what these took.
-SMALL = {
-    "shared dictionaries": (lambda: shared_dictionaries(20), {"binary1": 35, "same": 100}),
-    "shared arrays": (lambda: arrays_named_twice(24), {"binary1": 400, "same": 760}),
-}
-MOST_SMALL = 32
 
 
 def make(name, size, path):
-    if name in REFUSED:
-        made = REFUSED[name][0](int(size))
-    elif name in ACCEPTED:
-        made = ACCEPTED[name][0]()
-    else:
-        made = SMALL[name][0]() if name in SMALL else MEMORY[name].make()
-    write(made, path)
+    write(REFUSED[name][0](int(size)) if name in REFUSED else MEMORY[name].make(), path)
 
 
 def made(name, size, path):
@@ -211,139 +188,64 @@ def made(name, size, path):
     return os.path.getsize(path)
 
 
-class Growth:
-    """Compares the instructions per byte of a refusal with those of the first size."""
-
-    def __init__(self, program, source, target):
-        self.words = [program, "convert", "binary1", source, target]
-        self.empty, self.first = instructions([program, "--version"]), None
-
-    def begin(self):
-        self.first = None
-
-    def of(self, size):
-        """Returns the instructions per byte divided by those of the first size, or None if
-        they are not counted."""
-        count = instructions(self.words) if self.empty is not None else None
-        if count is None:
-            return None
-        each = max(count - self.empty, 1) / size
-        self.first = self.first or each
-        return each / self.first
-
-
 def cross(good):
     return "" if good else " ✗"
 
 
-def refused(measure, program, source, target):
+def refused(measure, program, source):
     """Prints the rows of refused inputs, and returns how many fail."""
-    wrong, growth = 0, Growth(program, source, target)
+    wrong, empty = 0, instructions([program, "--version"])
+    words = [program, "convert", "binary1", source, source + " out"]
     print(
-        "| refused | bytes | answer | ms | MiB | instructions for each byte, divided by those of the first size |"
+        "| refused | bytes | answer | ms | MiB | instructions for each byte, of the first size's |"
     )
     print("|---|---|---|---|---|---|")
     for name, (_, sizes, answer) in REFUSED.items():
-        growth.begin()
+        first = None
         for parameter in sizes:
             size = made(name, parameter, source)
-            runs = [measure.run(growth.words) for _ in range(3)]
+            runs = [measure.run(words) for _ in range(3)]
             line = runs[0].printed.removeprefix(source + ": refused ")
-            seconds, used = (
-                min(run.processor for run in runs),
-                max(run.octets for run in runs) / MIB,
-            )
-            grown = growth.of(size)
+            ms = min(run.processor for run in runs) * 1000
+            used = max(run.octets for run in runs) / MIB
+            each = 1 if empty is None else max(instructions(words) - empty, 1) / size
+            first = first or each
             good = runs[0].status == 2 and line.startswith(answer) and used < 16
-            good = good and (size > 1000 or seconds < 0.01) and (grown is None or grown < 1.2)
+            good = good and (size > 1000 or ms < 10) and each < 1.2 * first
             wrong += not good
-            shown = "" if grown is None else f"{grown:.2f}"
             print(
-                f"| {name} | {size:,} | {line} | {seconds * 1000:.1f} | {used:.1f} | {shown} |{cross(good)}",
+                f"| {name} | {size:,} | {line} | {ms:.1f} | {used:.1f} | {each / first:.2f} "
+                f"|{cross(good)}",
                 flush=True,
             )
     return wrong
-
-
-def accepted(measure, program, source, target):
-    """Prints the rows of accepted files, whose canonical files must be canonical, and
-    returns how many fail."""
-    wrong = 0
-    print(
-        "| accepted | bytes | nodes | canonical bytes | seconds | MB | bytes of memory for each node, without both "
-        "files | its check: seconds | MB |"
-    )
-    print("|---|---|---|---|---|---|---|---|---|")
-    for name, (_, nodes) in ACCEPTED.items():
-        size = made(name, 0, source)
-        run = measure.run([program, "convert", "binary1", source, target])
-        length = os.path.getsize(target) if run.status == 0 else 0
-        checked = measure.run([program, "check", target])
-        each = max(run.octets - size - length, 0) / nodes
-        good = run.status == 0 and (checked.status, checked.printed) == (0, "canonical")
-        good = good and (each <= 60 or nodes < MIB)
-        wrong += not good
-        shown = f"{each:.0f}" if nodes > MIB else ""
-        print(
-            f"| {name} | {size:,} | {nodes:,} | {length:,} | {run.processor:.2f} | {run.octets / 1e6:.0f} | {shown} "
-            f"| {checked.processor:.2f} | {checked.octets / 1e6:.0f} |{cross(good)}",
-            flush=True,
-        )
-    return wrong
-
-
-def measured(measure, program, source, answers):
-    """Returns the run of each command, and whether it ends with its answer."""
-    found = {}
-    for command in MEASURED:
-        into = subprocess.DEVNULL if command == "print" else subprocess.PIPE
-        run = measure.run([program, *words_of(command, source)], into=into)
-        line, answer = run.printed.removeprefix(source + ": "), answers.get(
-            command, answers["lint"]
-        )
-        good = run.status == (2 if answer.startswith("refused") else 0)
-        found[command] = run, good and (command == "print" or line.startswith(answer))
-    return found
 
 
 def memory(measure, program, source):
     """Prints the rows of memory, and returns how many cells fail."""
     wrong = 0
     print(
-        f"| bytes of memory for each byte, at most | bytes | answer | {' | '.join(MEASURED)} | longest, s |"
+        f"\n| memory for each byte, or MB / at most | bytes | {' | '.join(MEASURED)} | longest, s |"
     )
-    print("|---|---|---|---|---|---|---|---|---|")
+    print("|---" * (len(MEASURED) + 3) + "|")
     for name, row in MEMORY.items():
-        size, cells, answer = made(name, 0, source), [], row.answer
-        answers = {"lint": answer, "openstep": row.openstep or answer}
-        found = measured(measure, program, source, answers)
-        for command, (run, good) in found.items():
-            each = run.octets / (2 * size if command == "same" else size)
-            good = good and each <= row.most
+        size, cells, longest = made(name, 0, source), [], 0
+        for command in MEASURED if row.answer == "" else MEASURED[:-1]:
+            words = words_of(command, source, source + " canonical" * (command == "binary1"))
+            answer = row.openstep or row.answer if command == "openstep" else row.answer
+            is_long = command == "print" and not answer
+            run = measure.run(
+                [program, *words], into=subprocess.DEVNULL if is_long else subprocess.PIPE
+            )
+            unit, most = size * (1 + (command == "same")), row.most
+            if isinstance(most, dict):
+                unit, most = 1e6, most.get(command, MOST_MB)
+            good = run.status == (2 if answer else 0) and run.octets <= most * unit
+            good = good and run.printed.removeprefix(source + ": ").startswith(answer)
             wrong += not good
-            cells.append(f"{each:.1f}{cross(good)}")
-        longest = max(run.processor for run, _ in found.values())
-        print(
-            f"| {name}, {row.most} | {size:,} | {answer or 'OK'} | {' | '.join(cells)} | {longest:.2f} |",
-            flush=True,
-        )
-    return wrong
-
-
-def small(measure, program, source):
-    """Prints the rows of small files, and returns how many cells fail."""
-    wrong = 0
-    print(f"| MB of memory / at most | bytes | {' | '.join(MEASURED)} | longest, s |")
-    print("|---|---|---|---|---|---|---|---|")
-    for name, (_, limits) in SMALL.items():
-        size, cells = made(name, 0, source), []
-        found = measured(measure, program, source, {"lint": ""})
-        for command, (run, good) in found.items():
-            most = limits.get(command, MOST_SMALL)
-            good = good and run.octets <= most * 1e6
-            wrong += not good
-            cells.append(f"{run.octets / 1e6:.0f} / {most}{cross(good)}")
-        longest = max(run.processor for run, _ in found.values())
+            cells.append(f"{run.octets / unit:.1f} / {most}{cross(good)}")
+            longest = max(longest, run.processor)
+        cells += [""] * (len(MEASURED) - len(cells))
         print(f"| {name} | {size:,} | {' | '.join(cells)} | {longest:.2f} |", flush=True)
     return wrong
 
@@ -354,20 +256,13 @@ def main():
         return 0
     program = os.path.abspath(sys.argv[1] if len(sys.argv) > 1 else "./plistconv")
     with tempfile.TemporaryDirectory() as folder:
-        source, target = os.path.join(folder, "source"), os.path.join(folder, "target")
-        measure = Measure(folder)
+        source, measure = os.path.join(folder, "source"), Measure(folder)
         runs = [measure.run([program, "--version"]) for _ in range(3)]
         print(
             f"An empty run takes {min(run.processor for run in runs) * 1000:.1f} ms and "
             f"{max(run.octets for run in runs) / MIB:.1f} MiB.\n"
         )
-        wrong = refused(measure, program, source, target)
-        print()
-        wrong += accepted(measure, program, source, target)
-        print()
-        wrong += memory(measure, program, source)
-        print()
-        wrong += small(measure, program, source)
+        wrong = refused(measure, program, source) + memory(measure, program, source)
     return 1 if wrong else 0
 
 

@@ -1,29 +1,9 @@
-#!/usr/bin/env python3
-"""Times two programs on sixteen inputs of other shapes than those of bench.py.
-
-usage: bench/shapes.py PROGRAM OTHER [--runs N] [--only NAME,..] [--scale S]
-                       [--command ARGUMENTS] [--bench] [--instructions]
-
-The programs take turns, N times (11 if not given), so that other work on the machine slows both
-alike. Seconds are processor time, of the user and the system, the least of these runs. --bench
-measures the inputs of bench.py too, and --only names some of either. --command gives other
-arguments than `convert binary1`. --instructions counts instructions by callgrind (Debian's
-valgrind), once each, in place of the time: no other work on the machine changes these.
-
-Each input is made anew, the same on every machine.
+"""Inputs of other shapes than those of files.py, for bench.py --other. Each is the same on every
+machine: its function gets a random generator and a scale.
 """
-import argparse
 import datetime
-import os
-import plistlib
 import random
 import string
-import subprocess
-import sys
-import tempfile
-
-import files
-from measure import Measure, instructions
 
 EPOCH = datetime.datetime(2001, 1, 1)
 
@@ -149,7 +129,7 @@ def data_text(chance, scale):
     return f"(\n{rows})\n".encode()
 
 
-def coordinates_text(chance, scale):
+def coordinates(chance, scale):
     """Arrays of short unquoted strings."""
     rows = "".join(
         f"\t({chance.randrange(10**4)}, {chance.randrange(10**4)}, p{chance.randrange(100)}),\n"
@@ -158,91 +138,26 @@ def coordinates_text(chance, scale):
     return f"(\n{rows})\n".encode()
 
 
-BINARY = {
-    "rotation": rotation,
-    "long dictionaries": long_dictionaries,
-    "own keys": own_keys,
-    "letters": letters,
-    "chinese strings": chinese_strings,
-    "hashes": hashes,
-    "digests": digests,
-    "reals": reals,
-    "integers": integers,
-    "dates": dates,
-    "few strings": few_strings,
-}
-TEXTS = {
-    "plain text": plain_text,
-    "wide text": wide_text,
-    "chinese text": chinese_text,
-    "data text": data_text,
-    "coordinates": coordinates_text,
-}
+def seeded(*makers):
+    """Returns each function by its name, with a generator that the name seeds."""
+    names = {maker.__name__.replace("_", " "): maker for maker in makers}
+    return {
+        name: lambda scale, name=name, maker=maker: maker(random.Random(name), scale)
+        for name, maker in names.items()
+    }
 
 
-def made(name, scale):
-    """Returns an input of this file or of bench.py."""
-    if name in TEXTS:
-        return TEXTS[name](random.Random(name), scale)
-    if name in files.TEXTS:
-        return files.TEXTS[name](scale)
-    value = (
-        BINARY[name](random.Random(name), scale) if name in BINARY else files.BINARY[name](scale)
-    )
-    return plistlib.dumps(value, fmt=plistlib.FMT_BINARY, sort_keys=False)
-
-
-def least_seconds(measure, commands, runs):
-    """Returns the least seconds of each command. The commands take turns."""
-    found = [[] for _ in commands]
-    for _ in range(runs):
-        for command, seconds in zip(commands, found):
-            seconds.append(measure.run(command, subprocess.DEVNULL, subprocess.DEVNULL).processor)
-    return [min(seconds) for seconds in found]
-
-
-def read_arguments():
-    parser = argparse.ArgumentParser()
-    parser.add_argument("programs", nargs=2, metavar="PROGRAM")
-    parser.add_argument("--runs", type=int, default=11)
-    parser.add_argument("--only", default="", help="names of inputs, with commas between")
-    parser.add_argument("--scale", type=float, default=1)
-    parser.add_argument("--command", default="convert binary1")
-    parser.add_argument("--bench", action="store_true")
-    parser.add_argument("--instructions", action="store_true")
-    return parser.parse_args()
-
-
-def main():
-    arguments = read_arguments()
-    every = [*BINARY, *TEXTS, *files.BINARY, *files.TEXTS]
-    names = every if arguments.bench else [*BINARY, *TEXTS]
-    if arguments.only:
-        names = arguments.only.split(",")
-        if unknown := set(names).difference(every):
-            sys.exit(f"no such input: {', '.join(unknown)}")
-    unit = "instructions, millions" if arguments.instructions else "seconds"
-    print(f"| input | bytes | {unit} | the other's | other / first |\n|---|---|---|---|---|")
-    with tempfile.TemporaryDirectory() as folder:
-        measure, source = Measure(folder), os.path.join(folder, "in")
-        target = [os.path.join(folder, "out")] * arguments.command.startswith("convert")
-        commands = [
-            [os.path.abspath(it), *arguments.command.split(), source, *target]
-            for it in arguments.programs
-        ]
-        for name in names:
-            with open(source, "wb") as file:
-                file.write(made(name, arguments.scale))
-            if arguments.instructions:
-                first, other = (instructions(command) / 1e6 for command in commands)
-            else:
-                first, other = least_seconds(measure, commands, arguments.runs)
-            size = os.path.getsize(source)
-            print(
-                f"| {name} | {size:,} | {first:.4g} | {other:.4g} | {other / first:.3f} |",
-                flush=True,
-            )
-
-
-if __name__ == "__main__":
-    main()
+BINARY = seeded(
+    rotation,
+    long_dictionaries,
+    own_keys,
+    letters,
+    chinese_strings,
+    hashes,
+    digests,
+    reals,
+    integers,
+    dates,
+    few_strings,
+)
+TEXTS = seeded(plain_text, wide_text, chinese_text, data_text, coordinates)

@@ -1,6 +1,6 @@
 /* Calls each function of the library, and prints the line of a refusal. Exits with 0 if all answer as they must, with 5
  * if one answers 60 and leaves all as it was, and else with 1. It takes no memory but for the buffers that calls make,
- * so `make growths-lib` can refuse each allocation in turn. */
+ * so `make growths` can refuse each allocation in turn. */
 #include <plistconv.h>
 #include <string.h>
 #include <unistd.h>

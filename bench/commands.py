@@ -1,0 +1,144 @@
+#!/usr/bin/env python3
+"""Compares commands of `plistconv` with others, on canonical files and on many small ones.
+
+usage: bench/commands.py [PLISTCONV]   (the program to measure, ./plistconv if not given)
+
+The first table has the files of bench.py, and two arrays of references to one boolean, whose print
+is far longer than they are. Time is processor time, the least of five runs in turns. `same` compares
+a file with itself, and `write` writes as many bytes as `print` does. On some files a check may take
+0.6 of the time of a conversion, `same` 1.3 of that of `lint`, and a print as long as converting and
+writing. A print may take 1 MiB more memory than `lint`, and as much beside either array.
+
+The second table has one call with 1,000 small files beside a call for each: it prints the same
+lines in a tenth of the time, and with a large file among them takes a tenth more memory than for
+that file alone. The status is 1 if a limit is missed.
+"""
+import os
+import shutil
+import sys
+import tempfile
+
+import files
+from hostile_files import head, joined
+from measure import Measure
+
+CHECKED, PRINTED = ("mixed", "keys", "numbers"), ("mixed",)
+REFERENCES = {f"{count:,} references": count for count in (1_000_000, 16_777_215)}
+MEBIBYTE, COUNT = 1 << 20, 1_000
+
+
+class Limits:
+    """The limits that are missed."""
+
+    def __init__(self):
+        self.missed = []
+
+    def hold(self, number, most, of):
+        if number > most:
+            self.missed.append(f"{of}: {number:.3f}, at most {most:.3f}")
+
+
+def write_source(name, path):
+    if name in files.BINARY:
+        files.make(name, 1, path)
+        return
+    count = REFERENCES[name]
+    with open(path, "wb") as into:
+        into.write(joined([head(0xA0, count) + b"\x01" * count, b"\x09"], 1))
+
+
+def least(measure, commands):
+    """Returns the least seconds and the greatest size of each command, which run in turns. The
+    output of each goes to the file `out` of its words, or nowhere."""
+    turns = []
+    for _ in range(5):
+        turns.append([])
+        for words, out in commands.values():
+            with open(out or os.devnull, "wb") as into:
+                turns[-1].append(measure.run(words, into=into))
+            if turns[-1][-1].status:
+                sys.exit(f"{' '.join(words)} ends with {turns[-1][-1].status}")
+    columns = dict(zip(commands, zip(*turns)))
+    seconds = {name: min(run.processor for run in runs) for name, runs in columns.items()}
+    return seconds, {name: max(run.octets for run in runs) for name, runs in columns.items()}
+
+
+def of_files(program, measure, limits):
+    """Prints the row of each file."""
+    beside, names = [], ("check", "convert", "same", "lint", "print", "write")
+    print(f"| file | bytes | printed | {', s | '.join(names)}, s | lint, MiB | print, MiB |")
+    print("|---" * (len(names) + 5) + "|")
+    for name in [*files.BINARY, *REFERENCES]:
+        write_source(name, "source")
+        measure.run([program, "convert", "binary1", "source", "file"])
+        words = {
+            "check": ["check", "file"],
+            "convert": ["convert", "binary1", "file", "out"],
+            "same": ["same", "file", "file"],
+            "lint": ["lint", "file"],
+            "print": ["print", "file"],
+        }
+        commands = {it: ([program, *words[it]], "printed" * (it == "print")) for it in words}
+        commands["write"] = [shutil.which("cat"), "printed"], "written"
+        time, memory = least(measure, commands)
+        size = os.path.getsize("file")
+        print(
+            f"| {name} | {size:,} | {os.path.getsize('printed'):,} | "
+            + " | ".join(f"{time[it]:.3f}" for it in names)
+            + f" | {memory['lint'] / MEBIBYTE:.1f} | {memory['print'] / MEBIBYTE:.1f} |",
+            flush=True,
+        )
+        if name in CHECKED:
+            limits.hold(time["check"], 0.6 * time["convert"], f"{name}: seconds of check")
+            limits.hold(time["same"], 1.3 * time["lint"], f"{name}: seconds of same")
+        if name in PRINTED:
+            limits.hold(time["print"], time["convert"] + time["write"], f"{name}: seconds of print")
+        limits.hold(memory["print"], memory["lint"] + MEBIBYTE, f"{name}: memory of print")
+        beside += [memory["print"] - size] * (name in REFERENCES)
+    limits.hold(max(beside) - min(beside), MEBIBYTE, "memory of print that grows with the output")
+
+
+def of_many(program, measure, limits):
+    """Prints the row of `lint` and of `check`."""
+    print("\n| command | one call, s | calls, s | memory of several, MB | of the largest, MB |")
+    print("|---" * 5 + "|")
+    files.make("mixed", 1, "source")
+    measure.run([program, "convert", "binary1", "source", "large"])
+    names = [f"file{number}" for number in range(COUNT)]
+    for name in names:
+        with open("source", "wb") as source:
+            source.write(b"{ name = Ada; langs = (en, fr); }")
+        measure.run([program, "convert", "binary1", "source", name])
+    for word in ("lint", "check"):
+        once = min(
+            (measure.run([program, word, *names]) for _ in range(5)), key=lambda it: it.seconds
+        )
+        singles = [measure.run([program, word, name]) for name in names]
+        calls = sum(run.seconds for run in singles)
+        path = "" if word == "lint" else "{}: "
+        lines = [path.format(name) + run.printed for name, run in zip(names, singles)]
+        mixed = measure.run([program, word, *names[:100], "large", *names[100:]])
+        alone = measure.run([program, word, "large"])
+        print(
+            f"| {word} | {once.seconds:.3f} | {calls:.3f} | {mixed.octets / 1e6:.1f} "
+            f"| {alone.octets / 1e6:.1f} |",
+            flush=True,
+        )
+        is_wrong = once.status or mixed.status or once.printed != "\n".join(lines)
+        limits.hold(is_wrong, 0, f"{word}: lines or statuses that differ")
+        limits.hold(once.seconds, 0.1 * calls, f"{word}: seconds of one call")
+        limits.hold(mixed.octets, 1.1 * alone.octets, f"{word}: memory of several")
+
+
+def main():
+    program, limits = os.path.abspath(sys.argv[1] if len(sys.argv) > 1 else "./plistconv"), Limits()
+    with tempfile.TemporaryDirectory() as folder:
+        os.chdir(folder)
+        for table in (of_files, of_many):
+            table(program, Measure(folder), limits)
+    print("\n".join(limits.missed or ["No limit is missed."]))
+    return 1 if limits.missed else 0
+
+
+if __name__ == "__main__":
+    sys.exit(main())

@@ -1,0 +1,350 @@
+"""Files made to be slow or large, for the scripts of this folder: what hostile.py measures, at any
+size, and the parts of binary files that they are made of.
+"""
+import random
+
+
+def number(value, width):
+    return value.to_bytes(width, "big")
+
+
+def numbers(values, width):
+    return b"".join(number(value, width) for value in values)
+
+
+def head(kind, count):
+    """Returns a marker with its count."""
+    if count < 15:
+        return bytes([kind | count])
+    size = next(size for size in range(4) if count < 256 ** (1 << size))
+    return bytes([kind | 15, 0x10 | size]) + number(count, 1 << size)
+
+
+def file(objects, places, width):
+    """Returns the file of objects that begin at these offsets, with references of `width` bytes."""
+    body = b"bplist00" + objects
+    trailer = (
+        bytes([0] * 6 + [4, width]) + number(len(places), 8) + number(0, 8) + number(len(body), 8)
+    )
+    return body + numbers(places, 4) + trailer
+
+
+def joined(objects, width):
+    """Returns the file of objects that follow each other."""
+    places, place = [], 8
+    for one in objects:
+        places.append(place)
+        place += len(one)
+    return file(b"".join(objects), places, width)
+
+
+def array(items, width):
+    """Returns an array of these objects, given by their numbers."""
+    return head(0xA0, len(items)) + numbers(items, width)
+
+
+def dictionary(names, value, width):
+    """Returns a dictionary with these keys, given by their numbers, which all
+    have the same value."""
+    return head(0xD0, len(names)) + numbers(names, width) + number(value, width) * len(names)
+
+
+def ascii_string(length, end=b""):
+    """Returns a string of `length` bytes with this end."""
+    return head(0x50, length) + b"a" * (length - len(end)) + end
+
+
+def wide_string(length, place):
+    """Returns a UTF-16 string of `length` units. Strings of other places differ
+    in the last unit."""
+    return head(0x60, length) + b"\x00a" * (length - 1) + number(0x100 + place, 2)
+
+
+def overlapping_strings(count, length):
+    """Returns strings that all reach into the bytes of the last one. Each has
+    about `length` bytes."""
+    start = b"\x5f\x12" + bytes(byte & 0x7F for byte in number(length, 4))
+    return [start] * (count - 1) + [start + b"a" * length]
+
+
+def shared_keys(size):
+    """Returns an array of dictionaries that all have the same two long keys, which differ only
+    in the last byte."""
+    count, length = size // 40, size // 4
+    first, one = array([1, *range(5, count + 4)], 2), b"\xd2" + numbers((2, 3, 4, 4), 2)
+    keys = [ascii_string(length, end) for end in (b"x", b"y")]
+    return joined([first, one, *keys, b"\x10\x00", *[one] * (count - 1)], 2)
+
+
+def overlapping_keys(size):
+    """Returns a dictionary whose keys all overlap."""
+    count = size // 40
+    one = dictionary(range(1, count + 1), count + 1, 2)
+    return joined([one, *overlapping_strings(count, size // 2), b"\x10\x00"], 2)
+
+
+def unordered_keys(size):
+    """Returns a dictionary whose first two keys do not ascend, and whose other keys overlap."""
+    count = size // 40
+    keys = [b"Qb", b"Qa", *overlapping_strings(count, size // 2)]
+    return joined([dictionary(range(1, count + 3), count + 3, 2), *keys, b"\x10\x00"], 2)
+
+
+def one_dictionary_often(size):
+    """Returns objects that are all the same dictionary, whose keys and values are
+    all the same string."""
+    count = size // 10
+    one = dictionary([count] * count, count, 3)
+    return file(one + b"Qa", [8] * count + [8 + len(one)], 3)
+
+
+def one_string_often(size):
+    """Returns an array with many references to one long string."""
+    return joined([array([1] * (size // 2), 1), ascii_string(size // 2)], 1)
+
+
+def one_place(size):
+    """Returns an array of strings that all begin at one offset, so that they are the same bytes."""
+    return at_one_place(size // 8, wide_string(size // 250, 0))
+
+
+def one_short_place(size):
+    """Returns `one_place` with a shorter string."""
+    return at_one_place(size // 7, wide_string(255, 0))
+
+
+def at_one_place(count, text):
+    first = array(range(1, count + 1), 3)
+    return file(first + text, [8] + [8 + len(first)] * count, 3)
+
+
+def one_key(size):
+    """Returns an array of dictionaries that all have the same long key."""
+    count = size // 14
+    one = dictionary([1], 2, 3)
+    return joined([array(range(3, count + 3), 3), ascii_string(5000), b"Qx", *[one] * count], 3)
+
+
+def dictionaries_of(lists, keys, size, value=b"Qx", unreached=()):
+    """Returns an array of dictionaries of `size` bytes in total, whose keys are these lists of
+    objects, in turn."""
+    width, at = 3, len(keys) + 1
+    each = [dictionary(one, at, width) for one in lists]
+    made, total = [], 0
+    while total < size:
+        made.append(each[len(made) % len(each)])
+        total += len(made[-1])
+    return joined(
+        [array(range(at + 1, at + 1 + len(made)), width), *keys, value, *made, *unreached], width
+    )
+
+
+def reordered(count, names, size, unreached=()):
+    """Returns dictionaries that all have the same `count` keys, of `names` bytes in total, each
+    in another order."""
+    chance = random.Random(count)
+    keys = [wide_string(names // count // 2, place) for place in range(count)]
+    # (each dictionary also takes an offset and a reference, of 7 bytes)
+    size = (size - names) * count // (count + 1)
+    lists = [chance.sample(range(1, count + 1), count) for _ in range(size // (6 * count) + 1)]
+    return dictionaries_of(lists, keys, size, unreached=unreached)
+
+
+def reordered_16(size):
+    # (longer keys would have more bytes in all dictionaries than a value may have)
+    return reordered(16, size * 2 // 17, size)
+
+
+def reordered_256(size):
+    return reordered(256, size // 2, size)
+
+
+def overlapping_unreached(size):
+    """Returns `reordered` dictionaries, and 40 strings that overlap and that nothing refers to."""
+    part = size * 3 // 4
+    return reordered(16, part * 2 // 17, part, overlapping_strings(40, size // 4))
+
+
+def lists_in_turn(size):
+    """Returns dictionaries with two long lists of keys, in turn."""
+    return lists_of(size // 240, size * 3 // 5)
+
+
+def lists_of(count, size, value=b"Qx"):
+    """Returns dictionaries of `size` bytes in total with two lists of `count` keys, in turn."""
+    keys = [head(0x50, 40) + b"%040d" % place for place in range(2 * count)]
+    chance = random.Random(0)
+    lists = [chance.sample(range(1 + part, 1 + part + count), count) for part in (0, count)]
+    return dictionaries_of(lists, keys, size, value)
+
+
+def three_in_turn(size):
+    """Returns dictionaries with three lists of long keys, in turn."""
+    keys = [wide_string(size // 4 // 48, place) for place in range(48)]
+    return dictionaries_of(
+        [range(part + 16, part, -1) for part in (0, 16, 32)], keys, size * 15 // 32
+    )
+
+
+def overlapping_later(size):
+    """Returns dictionaries with the same long keys in other orders, and then one whose
+    keys all overlap."""
+    count, width, often = 16, 3, 40
+    first = often + 2
+    value, keys = first + count, [wide_string(size // 8 // count, place) for place in range(count)]
+    lists = [
+        [first + (place + turn) % count for place in range(count)] for turn in range(1, often + 1)
+    ]
+    over = range(value + 1, value + 1 + size // 40)
+    made = [dictionary(one, value, width) for one in [*lists, over]]
+    return joined(
+        [
+            array(range(1, often + 2), width),
+            *made,
+            *keys,
+            b"\x09",
+            *overlapping_strings(len(over), size // 2),
+        ],
+        width,
+    )
+
+
+def agreeing_keys(size):
+    """Returns an array of dictionaries of the same 256 long UTF-16 keys, each in another order. The keys overlap: their
+    heads stand every 64 bytes in what all of them repeat, so that two agree up to the last head."""
+    count, length, step, width = 256, 8192, 64, 2
+    chance, made = random.Random(count), size // 12_500
+    one = head(0x60, length)
+    region = (one + b"\x4e\x00" * ((step - len(one)) // 2)) * count + b"\x4e\x00" * length
+    tables = [
+        dictionary(chance.sample(range(1, count + 1), count), count + 1, width) for _ in range(made)
+    ]
+    objects = [array(range(count + 2, count + 2 + made), width), region, b"Qx", *tables]
+    starts = [8]
+    for written in objects:
+        starts.append(starts[-1] + len(written))
+    places = [starts[0], *range(starts[1], starts[1] + step * count, step), *starts[2:-1]]
+    # (the rest is no object)
+    return file(b"".join(objects).ljust(size), places, width)
+
+
+def late_dictionary(count, size, key, names):
+    """Returns an array of an array and a dictionary. In the inner array are dictionaries of the
+    same `count` keys, which `key` makes from a length and a place, in two orders in turn. The other
+    dictionary has the keys `names`: 2 is a boolean, those from 3 on are the `count` keys, and the
+    largest number is no object."""
+    width, at, length = 3, 5, size * 2 // 17 // count
+    lists = [
+        chosen
+        for _ in range(size // (6 * count + 10))
+        for chosen in (range(count), range(count - 1, -1, -1))
+    ]
+    made, total = [], count * length
+    while total < size:
+        made.append(dictionary([at + place for place in lists[len(made)]], 3, width))
+        total += len(made[-1]) + 7
+    last = dictionary([4 if name == 2 else at + name - 3 for name in names], 3, width)
+    inner = array(range(at + count, at + count + len(made)), width)
+    keys = [key(length, place) for place in range(count)]
+    return joined([array((1, 2), width), inner, last, b"Qx", b"\x09", *keys, *made], width)
+
+
+def wide_key(length, place):
+    return wide_string(length // 2, place)
+
+
+def ascii_key(length, place):
+    # (a value may have at most 2^30 bytes of strings, two for each unit)
+    return ascii_string(length // 2, b"%03d" % place)
+
+
+def boolean_keys(size):
+    """Returns a `late_dictionary` with nine keys that are a boolean."""
+    return late_dictionary(20, size, wide_key, [2] * 9)
+
+
+def keys_nowhere(size):
+    """Returns a `late_dictionary` with nine keys that are references to no object."""
+    return late_dictionary(20, size, wide_key, [10**6] * 9)
+
+
+def late_wide_keys(size):
+    """Returns a `late_dictionary` with nine of the keys."""
+    return late_dictionary(20, size, wide_key, range(3, 12))
+
+
+def late_ascii_keys(size):
+    """Returns a `late_dictionary` of ASCII keys, with nine of them."""
+    return late_dictionary(20, size, ascii_key, range(3, 12))
+
+
+def late_256_keys(size):
+    """Returns a `late_dictionary` of 256 keys, with nine of them."""
+    return late_dictionary(256, size, wide_key, range(3, 12))
+
+
+def one_dictionary(size, units_of):
+    """Returns a dictionary whose keys are UTF-16 strings of these units, in no order, all
+    of the same length."""
+    length = len(units_of(0))
+    count = size // (2 * length + 13)
+    places = random.Random(length).sample(range(count), count)
+    keys = [head(0x60, length) + numbers(units_of(place), 2) for place in places]
+    return joined([dictionary(range(1, count + 1), count + 1, 3), *keys, b"Qx"], 3)
+
+
+def tied(place, blocks):
+    """Returns blocks of units, each with the same first unit or another by a bit of `place`, and
+    the place itself."""
+    start = [
+        unit
+        for at, block in enumerate(blocks)
+        for unit in (block[0] + (place >> at & 1), *block[1:])
+    ]
+    return start + [0x4E00 + place // 256, 0x4E00 + place % 256]
+
+
+def tied_narrow_keys(size):
+    """Returns keys in few groups, whose next eight units of 8 bits are equal each time that
+    they are compared."""
+    return one_dictionary(size, lambda place: tied(place, [[0x61] * 8] * 5))
+
+
+def tied_wide_keys(size):
+    """Returns keys in few groups, whose next four units of 16 bits are equal each time that
+    they are compared."""
+    return one_dictionary(size, lambda place: tied(place, [[0x4E00] * 4] * 5))
+
+
+def changing_keys(size):
+    """Returns keys in few groups, whose next units need 8 and 16 bits in turn."""
+    return one_dictionary(size, lambda place: tied(place, [[0x61] * 8, [0x4E00] * 4] * 3))
+
+
+def one_narrow_key(size):
+    """Returns ideographs as keys, and one key of ASCII."""
+    return one_dictionary(
+        size,
+        lambda place: [0x61] * 8
+        if place == 0
+        else [0x4E00 + place % 97] * 6 + [0x4E00 + place // 256, 0x4E00 + place % 256],
+    )
+
+
+def surrogate_keys(size):
+    """Returns keys of characters above U+FFFF."""
+    return one_dictionary(
+        size,
+        lambda place: [0xD83D, 0xDE00 + place % 64] * 3
+        + [0xD840 + place // 1024, 0xDC00 + place % 1024],
+    )
+
+
+def quotes(size):
+    """Returns a string of quotes."""
+    return joined([head(0x50, size) + b'"' * size], 1)
+
+
+def unseen_units(size):
+    """Returns a UTF-16 string whose units are printed as escapes."""
+    return joined([head(0x60, size // 2) + b"\x20\x0e" * (size // 2)], 1)
