@@ -5,12 +5,14 @@ hand, within a second.
 No contract can say that memory was refused, so 60 has to come from the library's `AllocError`
 through `?`. A line makes it by hand if its code has one of the names in NAMES: outside of comments,
 clauses, types, declarations and `use` lines, and not only in the pattern of an arm of a `match`. An
-arm may give 60 if each of its patterns is 60.
+arm may give 60 if each of its patterns is 60. Another name for one of them is such a line too, and
+so are calls of `to_u32`, which fails for large numbers, what sets `needs_memory` or hands it on,
+and a `DeviceFault` in a file that the list has for one: a sink in memory, whose failure is 60.
 
 Each such line has to be in scripts/out_of_memory.txt, with the reason that it may. A line of that
 list is `FILE | FUNCTION | REASON | CODE`, in which FUNCTION begins with the type or impl that it is
-in, or is `-` outside of functions. Fails if a line is not in the list, or if a line of the list is
-not in the code. Tests are passed over.
+in, or is `-` outside of functions, and CODE with the head of the `if` that it is in, if any. Fails
+if a line is not in the list, or if a line of the list is not in the code. Tests are passed over.
 """
 from __future__ import annotations
 
@@ -23,8 +25,10 @@ TOP = Path(__file__).resolve().parent.parent
 LIST = "scripts/out_of_memory.txt"
 TESTS = {"plist_tests", "program_tests", "rows", "test_files"}
 NAMES = re.compile(
-    r"\b(?:OutOfMemory|NoMemory|AllocError|AllocFailed|(?<!fn )report_no_memory)\b|\b(?:60|0x3[cC])(?:_?u8)?\b(?!\s*(?:\||=>))"
+    r"\b(?:OutOfMemory|NoMemory|AllocError|AllocFailed|(?<!fn )(?:report_no_memory|to_u32))\b"
+    r"|\bneeds_memory\b(?!: bool)|\b(?:60|0x3[cC])(?:_?u8)?\b(?!\s*(?:\||=>))"
 )
+FAULT = re.compile(r"\bDeviceFault\b")
 PATTERN = re.compile(r"\b(?:OutOfMemory|NoMemory|AllocError)\b|^60$")
 STRING = re.compile(r"""b?"(?:[^"\\]|\\.)*"|b?'(?:[^'\\\n]|\\[^\n]+?)'""", re.DOTALL)
 # A string or a character, a comment, a clause up to its brace, or a `use` line.
@@ -38,7 +42,7 @@ TOKEN = re.compile(
     re.VERBOSE | re.DOTALL,
 )
 TYPE = re.compile(
-    r"(?:(?<=, )|(?<=<)|(?<=: )|(?<=-> ))Alloc(?:Error|Failed<\w+>)(?=\s*(?:[>,;){]|$))"
+    r"(?:(?<=, )|(?<=<)|(?<=: )|(?<=-> ))(?:DeviceFault|Alloc(?:Error|Failed<\w+>))(?=\s*(?:[>,;){]|$))"
 )
 SCOPE = re.compile(
     r"\bfn\s+(?P<fn>\w+)|\bimpl\b(?P<impl>[^;{]*)|\btrait\s+(?P<trait>\w+)"
@@ -75,7 +79,7 @@ def code_of(text):
         elif found["clause"]:
             at = closed(text, at)
             done.append(blank(text[found.start() : at]))
-        elif re.search(r"\b(?:AllocError|AllocFailed|OutOfMemory|NoMemory)\s+as\b", found[0]):
+        elif re.search(r"\b(?:AllocError|AllocFailed|OutOfMemory|NoMemory|to_u32)\s+as\b", found[0]):
             done.append(found[0])
         else:
             done.append(blank(found[0]))
@@ -121,16 +125,31 @@ def is_made(line):
     return not all(PATTERN.search(one.strip()) for one in alternatives)
 
 
-def made(tree):
-    """Yields file, function and code of each line that makes 60 by hand, and its number."""
+def condition(lines, at):
+    """Returns the head of the `if` that the line is directly in, or an empty text."""
+    indent, head = len(lines[at]) - len(lines[at].lstrip()), ""
+    for line in reversed(lines[:at]):
+        if line.strip() and len(line) - len(line.lstrip()) < indent or head:
+            head = f"{line.strip()} {head}"
+            if line.strip() != "{" and not line.lstrip().startswith(("&&", "||")):
+                break
+    return head if re.match(r"(\} else )?if ", head) else ""
+
+
+def made(tree, sinks):
+    """Yields file, function and code of each line that makes 60 by hand, and its number. `sinks`
+    are the files of sinks in memory."""
     for path in sorted(tree.glob("crates/*/src/**/*.rt")):
         name = path.relative_to(tree)
         if name.parts[1] in TESTS:
             continue
         code = code_of(path.read_text(encoding="utf-8"))
-        for number, (line, function) in enumerate(zip(code.split("\n"), functions(code)), 1):
-            if function is not None and is_made(TYPE.sub("_", line)):
-                yield (str(name), function, line.strip()), number
+        lines = code.split("\n")
+        for at, (line, function) in enumerate(zip(lines, functions(code))):
+            bare = TYPE.sub("_", line)
+            is_fault = str(name) in sinks and FAULT.search(bare)
+            if function is not None and (is_fault or is_made(bare)):
+                yield (str(name), function, condition(lines, at) + line.strip()), at + 1
 
 
 def listed(tree):
@@ -147,7 +166,7 @@ def differences(tree):
     """Returns a message for each line of code that is not in the list, and for each that is
     only in the list."""
     left, wrong = Counter(listed(tree)), []
-    for place, number in made(tree):
+    for place, number in made(tree, {file for file, _, code in left if FAULT.search(code)}):
         if left[place] > 0:
             left[place] -= 1
         else:
