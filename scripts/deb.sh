@@ -77,14 +77,17 @@ plistconv ($VERSION) unstable; urgency=medium
 END
 }
 
-pack() { # PACKAGE SECTION ARCHITECTURE DEPENDS TEXT [FIELD..]: TEXT is the description, with the title in its first line
+pack() { # PACKAGE SECTION ARCHITECTURE DEPENDS PART CONTENT [FIELD..]: PART and CONTENT belong to the description
     local package=$1
     documents "$package"
     mkdir -p "$package/DEBIAN"
     {
         printf '%s\n' "Package: $package" 'Source: plistconv' "Version: $VERSION" "Architecture: $3" "Section: $2" \
-            'Priority: optional' "Maintainer: $MAINTAINER" "Depends: $4" "${@:6}" \
-            "Installed-Size: $(du -k -s --apparent-size "$package" | cut -f 1)" "Description: $5"
+            'Priority: optional' "Maintainer: $MAINTAINER" "Depends: $4" "${@:7}" \
+            "Installed-Size: $(du -k -s --apparent-size "$package" | cut -f 1)" \
+            "Description: canonical form of Apple property lists${5:+ - $5}" \
+            ' Gives each Apple property list, binary or OpenStep text, the one file that all' \
+            ' its spellings share, so that property lists can be compared, hashed and cached.' ' .' " $6"
     } > "$package/DEBIAN/control"
     (cd "$package" && find usr -type f -print0 | LC_ALL=C sort -z | xargs -0 md5sum > DEBIAN/md5sums)
     chmod -R u+rwX,go+rX,go-w "$package"
@@ -132,38 +135,17 @@ done
 mkdir -p golang-plistconv-dev/usr/share/gocode/src/plistconv
 cp ../../bindings/go/{plistconv.go,refused.go,go.mod} golang-plistconv-dev/usr/share/gocode/src/plistconv/
 
-pack plistconv utils "$arch" "libc6 (>= $(libc plistconv/usr/bin/plistconv)), python3:any (>= 3.7)" 'canonical form of Apple property lists
- Gives each Apple property list, binary or OpenStep text, the one file that all
- its spellings share, so that property lists can be compared, hashed and cached.
- .
- With commands for git, caches and files in their places.' 'Suggests: git, libplist-utils'
-pack libplistconv1 libs "$arch" "libc6 (>= $(libc "libplistconv1/$lib/libplistconv.so.1"))" 'canonical form of Apple property lists - library
- Gives each Apple property list, binary or OpenStep text, the one file that all
- its spellings share, so that property lists can be compared, hashed and cached.
- .
- This package holds the shared library.' 'Multi-Arch: same'
-pack libplistconv-dev libdevel "$arch" "libplistconv1 (= $VERSION)" 'canonical form of Apple property lists - development
- Gives each Apple property list, binary or OpenStep text, the one file that all
- its spellings share, so that property lists can be compared, hashed and cached.
- .
- This package holds the header, the static library and a file for pkg-config.' 'Multi-Arch: same'
-pack python3-plistconv python all "python3:any (>= 3.8), libplistconv1 (>= $VERSION)" 'canonical form of Apple property lists - Python module
- Gives each Apple property list, binary or OpenStep text, the one file that all
- its spellings share, so that property lists can be compared, hashed and cached.
- .
- This package holds the Python module.'
-pack librust-plistconv-sys-dev rust all "libplistconv-dev (>= $VERSION), pkgconf" 'canonical form of Apple property lists - functions for Rust
- Gives each Apple property list, binary or OpenStep text, the one file that all
- its spellings share, so that property lists can be compared, hashed and cached.
- .
- This package holds the source of the crate plistconv-sys.'
-pack librust-plistconv-dev rust all "librust-plistconv-sys-dev (= $VERSION)" 'canonical form of Apple property lists - Rust crate
- Gives each Apple property list, binary or OpenStep text, the one file that all
- its spellings share, so that property lists can be compared, hashed and cached.
- .
- This package holds the source of the crate plistconv.'
-pack golang-plistconv-dev golang all "libplistconv-dev (>= $VERSION), pkgconf" 'canonical form of Apple property lists - Go package
- Gives each Apple property list, binary or OpenStep text, the one file that all
- its spellings share, so that property lists can be compared, hashed and cached.
- .
- This package holds the source of the package plistconv.'
+library="libplistconv-dev (>= $VERSION), pkgconf"
+pack plistconv utils "$arch" "libc6 (>= $(libc plistconv/usr/bin/plistconv)), python3:any (>= 3.7)" '' \
+    'With commands for git, caches and files in their places.' 'Suggests: git, libplist-utils'
+pack libplistconv1 libs "$arch" "libc6 (>= $(libc "libplistconv1/$lib/libplistconv.so.1"))" library \
+    'This package holds the shared library.' 'Multi-Arch: same'
+pack libplistconv-dev libdevel "$arch" "libplistconv1 (= $VERSION)" development \
+    'This package holds the header, the static library and a file for pkg-config.' 'Multi-Arch: same'
+pack python3-plistconv python all "python3:any (>= 3.8), libplistconv1 (>= $VERSION)" 'Python module' \
+    'This package holds the Python module.'
+pack librust-plistconv-sys-dev rust all "$library" 'functions for Rust' \
+    'This package holds the source of the crate plistconv-sys.'
+pack librust-plistconv-dev rust all "librust-plistconv-sys-dev (= $VERSION)" 'Rust crate' \
+    'This package holds the source of the crate plistconv.'
+pack golang-plistconv-dev golang all "$library" 'Go package' 'This package holds the source of the package plistconv.'

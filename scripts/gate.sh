@@ -147,7 +147,7 @@ if [ -x "$program" ]; then
     step 'rows against the second reading' 900 bash -c 'needs python3 && python3 fuzz/rows.py'
     step README 900 scripts/readme
     step tools 900 bash -c 'needs python3 && python3 tools/test_tools.py'
-    step 'words that are not UTF-8' 900 scripts/words.sh
+    step 'arguments and streams' 900 scripts/words.sh
     step explanations 900 scripts/explained.sh
     step completions 900 completions/test
     step 'long input' 900 bash -c 'needs python3 && scripts/limits.py "$PLISTCONV"'

@@ -2,10 +2,11 @@
 """limits.py PROGRAM [--large]: checks what is too long for tests. No contract says when memory is
 refused, so a command could report 60 for whatever is longer than the values of the tests.
 
-- `lint` refuses a text that exceeds the limit of nodes, of 50 MB.
+- `lint` refuses a text that exceeds the limit of nodes, of 50 MB, though another refusal is true
+  of it too.
 - Each command reads, writes and compares values of 70,000 keys, of 1,100,000 strings, of 3 MiB of
-  data or of a string, and of 450 levels. It refuses such a value with a duplicate key, and a long
-  text with an error at its end.
+  data, of a string of 30 MB, and of 450 levels. It refuses such a value with a duplicate key, and a
+  long text with an error at its end. Each text is read as UTF-8 and as UTF-16.
 - `lint` opens a path of 200 bytes, and one of 4,090, and reports one that is longer than
   any path of the system.
 
@@ -20,6 +21,7 @@ import tempfile
 
 NODES = 16_777_216
 UNITS = 1_073_741_824 // 2
+NODES_17, PAYLOAD_18 = b"17 TooManyNodes", b"18 TooMuchPayload"
 
 
 def available():
@@ -62,24 +64,40 @@ class Runs:
                     print(f"{name}: {' '.join(words)[:80]}: another file", flush=True)
 
 
-# Texts at the limits, which are refused where they exceed it.
+def wide(text):
+    """Returns a text as UTF-16."""
+    return text.decode().encode("utf-16")
 
 
-def lists(count):
-    """Returns an array of `count` empty arrays. Each of them is a node, and so is
-    the array itself."""
-    return b"(" + b"()," * count + b")"
+# Texts at the limits, with the refusal and its offset, if there is one. Each empty array is a node,
+# and so is what contains it.
+EMPTY, DEEP, TWICE = NODES - 1, NODES - 512, NODES - 3
+LIMITS = {
+    "one node fewer than the limit": (lambda: b"(" + b"()," * (EMPTY - 1) + b")", None, 0),
+    "as many nodes as the limit": (lambda: b"(" + b"()," * EMPTY + b")", None, 0),
+    "one node more": (lambda: b"(" + b"()," * NODES + b")", NODES_17, 1 + 3 * EMPTY),
+    "one more, too deep": (lambda: b"(" + b"()," * DEEP + b"(" * 512, NODES_17, 512 + 3 * DEEP),
+    "one more, a duplicate": (lambda: b"{a=(" + b"()," * TWICE + b");a;}", NODES_17, 6 + 3 * TWICE),
+}
+LARGE = {
+    "as much payload as the limit": (lambda: b"(" + b"a" * (UNITS - 1) + b",b)", None, 0),
+    "one letter more": (lambda: b"(" + b"a" * UNITS + b",b)", PAYLOAD_18, UNITS + 2),
+    "one more, another string": (lambda: b"a" * (UNITS + 1) + b" b", PAYLOAD_18, 0),
+}
 
 
-def strings(count):
-    """Returns an array of a string of `count` letters and a string of one letter."""
-    return b"(" + b"a" * count + b",b)"
+# How a text is written, and where its offsets are then.
+FORMS = [(bytes, int), (wide, lambda octet: 2 + 2 * octet)]
 
 
-def refuse(runs, name, octets, refusal):
-    runs.put("text", octets)
-    status, said = (2, b"text: " + refusal) if refusal else (0, b"text: OK")
-    runs.expect(name, ["lint", "text"], status, said + b"\n")
+def keep_limits(runs, limits, forms):
+    """Has `lint` read the texts in these forms, each of which has an offset for one of UTF-8."""
+    for name, (make, refusal, place) in limits.items():
+        text = make()
+        for form, offset in forms:
+            runs.put("text", form(text))
+            said = b"refused %s at octet %d" % (refusal, offset(place)) if refusal else b"OK"
+            runs.expect(name, ["lint", "text"], 2 if refusal else 0, b"text: " + said + b"\n")
 
 
 # Values, in each of their forms.
@@ -207,16 +225,17 @@ def dictionaries(levels):
 
 
 def accept(runs, name, value):
-    """Has each command read the value as a text and as a file."""
+    """Has each command read the value as a text, in UTF-8 and UTF-16, and as a file."""
     runs.put("text", value.text)
+    runs.put("wide", wide(value.text))
     runs.put("file", value.file)
-    for path in ("text", "file"):
+    for path in ("text", "wide", "file"):
         runs.expect(name, ["lint", path], 0, path.encode() + b": OK\n")
         runs.expect(name, ["convert", "binary1", path, "out"], 0, b"", value.file)
         runs.expect(name, ["convert", "openstep", path, "out"], 0, b"", value.written)
         runs.expect(name, ["print", path], 0, value.printed)
     runs.expect(name, ["same", "text", "file"], 0, b"equal\n")
-    runs.expect(name, ["same", "file", "text"], 0, b"equal\n")
+    runs.expect(name, ["same", "file", "wide"], 0, b"equal\n")
     runs.expect(name, ["check", "file"], 0, b"canonical\n")
 
 
@@ -247,23 +266,20 @@ def repeated(count):
     )
 
 
+def refuse_text(runs, name, text, refusal, octet):
+    """Has each command refuse the text, in UTF-8 and UTF-16."""
+    for form, offset in FORMS:
+        refuse_all(runs, name, form(text), b"%s at octet %d" % (refusal, offset(octet)))
+
+
 def refuse_long(runs):
     text, second, file = repeated(70_000)
-    refuse_all(
-        runs,
-        "70,000 keys and a duplicate, in a text",
-        text,
-        b"14 DuplicateKey at octet %d" % second,
-    )
+    refuse_text(runs, "70,000 keys and a duplicate", text, b"14 DuplicateKey", second)
     refuse_all(runs, "70,000 keys and a duplicate, in a file", file, b"14 DuplicateKey at object 0")
     digits = b"<" + b"07" * (3 << 20)
-    refuse_all(
-        runs, "3 MiB of data without an end", digits, b"29 BadData at octet %d" % len(digits)
-    )
+    refuse_text(runs, "3 MiB of data without an end", digits, b"29 BadData", len(digits))
     strings = b"(" + b"a, " * 1_100_000
-    refuse_all(
-        runs, "1,100,000 strings without an end", strings, b"30 Expected at octet %d" % len(strings)
-    )
+    refuse_text(runs, "strings without an end", strings, b"30 Expected", len(strings))
 
 
 def unused(count):
@@ -309,33 +325,23 @@ def open_paths(runs):
 
 
 def try_all(runs):
-    refuse(runs, "one node fewer than the limit", lists(NODES - 2), None)
-    refuse(runs, "as many nodes as the limit", lists(NODES - 1), None)
-    refuse(
-        runs,
-        "one node more",
-        lists(NODES),
-        b"refused 17 TooManyNodes at octet %d" % (1 + 3 * (NODES - 1)),
-    )
-    accept(runs, "70,000 keys", keys(70_000))
-    accept(runs, "1,100,000 strings", items(1_100_000))
-    accept(runs, "3 MiB of data", data(3 << 20))
-    accept(runs, "a string of 3 MiB", letters(3 << 20))
-    accept(runs, "a string of 3 MiB that is not ASCII", accents(3 << 19))
-    accept(runs, "450 levels of arrays", arrays(450))
-    accept(runs, "450 levels of dictionaries", dictionaries(450))
+    keep_limits(runs, LIMITS, FORMS)
+    for name, make, size in (
+        ("70,000 keys", keys, 70_000),
+        ("1,100,000 strings", items, 1_100_000),
+        ("3 MiB of data", data, 3 << 20),
+        ("a string of 30 MB", letters, 30_000_000),
+        ("a string of 30 MB that is not ASCII", accents, 15_000_000),
+        ("450 levels of arrays", arrays, 450),
+        ("450 levels of dictionaries", dictionaries, 450),
+    ):
+        accept(runs, name, make(size))
     refuse_long(runs)
     open_paths(runs)
 
 
 def try_large(runs):
-    refuse(runs, "as much payload as the limit", strings(UNITS - 1), None)
-    refuse(
-        runs,
-        "one letter more",
-        strings(UNITS),
-        b"refused 18 TooMuchPayload at octet %d" % (UNITS + 2),
-    )
+    keep_limits(runs, LARGE, FORMS[:1])
     read_many(runs, NODES + 84)
     accept(runs, "a text of 300 MB", data(150_000_000))
 

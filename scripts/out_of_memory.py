@@ -79,7 +79,9 @@ def code_of(text):
         elif found["clause"]:
             at = closed(text, at)
             done.append(blank(text[found.start() : at]))
-        elif re.search(r"\b(?:AllocError|AllocFailed|OutOfMemory|NoMemory|to_u32)\s+as\b", found[0]):
+        elif re.search(
+            r"\b(?:AllocError|AllocFailed|OutOfMemory|NoMemory|to_u32)\s+as\b", found[0]
+        ):
             done.append(found[0])
         else:
             done.append(blank(found[0]))

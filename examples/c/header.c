@@ -70,6 +70,36 @@ static int buffers_hold(void) {
     return 0;
 }
 
+/* Whether the buffer is a text with `count` times a part between its first and its last line. */
+static int repeats(const uint8_t *into, size_t length, const char *first, const char *part, size_t count, const char *last) {
+    size_t step = strlen(part);
+    if (length != strlen(first) + count * step + strlen(last) || memcmp(into, first, strlen(first)) != 0) return 0;
+    into += strlen(first);
+    for (; count > 0; count--, into += step)
+        if (memcmp(into, part, step) != 0) return 0;
+    return memcmp(into, last, strlen(last)) == 0;
+}
+
+/* Texts and prints of more than 8 KiB, of one string and of many. */
+static int long_holds(void) {
+    static uint8_t letters[20000], items[2 * 20000 + 2], into[8 * 20000];
+    size_t length;
+    plistconv_refusal refusal;
+    memset(letters, 'a', sizeof letters);
+    MUST(plistconv_text(letters, sizeof letters, into, sizeof into, &length, &refusal) == 0);
+    MUST(repeats(into, length, "", "a", sizeof letters, "\n"));
+    MUST(plistconv_print(letters, sizeof letters, into, sizeof into, &length, &refusal) == 0);
+    MUST(repeats(into, length, "\"", "a", sizeof letters, "\"\n"));
+    for (size_t at = 0; at < sizeof items; at++) items[at] = at % 2 ? 'a' : ',';
+    items[0] = '(';
+    items[sizeof items - 1] = ')';
+    MUST(plistconv_text(items, sizeof items, into, sizeof into, &length, &refusal) == 0);
+    MUST(repeats(into, length, "(\n", "a,\n", 20000, ")\n"));
+    MUST(plistconv_print(items, sizeof items, into, sizeof into, &length, &refusal) == 0);
+    MUST(repeats(into, length, "[\n", "  \"a\"\n", 20000, "]\n"));
+    return 0;
+}
+
 /* A key of zeros is none, and no key changes what is answered. */
 static int keys_hold(const uint8_t *text, size_t count) {
     const uint8_t keys[2][PLISTCONV_HASH_KEY_OCTETS] = {{0}, {1, 2, 3}};
@@ -132,7 +162,7 @@ int main(void) {
     uint8_t (*call)(const uint8_t *, size_t, const uint8_t *, uint8_t *, size_t, size_t *, plistconv_refusal *) =
         plistconv_canonical;
     MUST(call(text, count, NULL, NULL, 0, &length, &refusal) == 0 && length == needed);
-    if (names_hold() || buffers_hold() || keys_hold(text, count) || empty_holds()) return 1;
+    if (names_hold() || buffers_hold() || long_holds() || keys_hold(text, count) || empty_holds()) return 1;
     puts("header: " PLISTCONV_VERSION);
     return 0;
 }
