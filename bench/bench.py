@@ -38,6 +38,18 @@ from measure import HERE, MOST, Measure, instructions
 OURS, BACK, OTHER = "plistconv", "plistconv, to a text", "the other"
 SCALES = (1 / 16, 1 / 4, 1)
 COPY, CRATE, OPENSTEP = "read and write", "plist (Rust)", "openstep_plist"
+# The peer, the most time of the peer's, and the most memory of the input's.
+TARGETS = {
+    "mixed": (CRATE, 0.1, 3),
+    "keys": (CRATE, 0.22, 3.5),
+    "chinese": (CRATE, 0.2, 4),
+    "cyrillic": (CRATE, 0.25, 4),
+    "numbers": (CRATE, 0.12, 4),
+    "data": (COPY, 1.1, 1.1),
+    "project": (OPENSTEP, 0.13, 4),
+    "strings": (OPENSTEP, 0.15, 4),
+    "strings16": (OPENSTEP, 0.18, 4),
+}
 
 
 class Files:
@@ -71,7 +83,7 @@ def measured(measure, programs, source, target, count):
             if runs[name] and (runs[name][0].status > 1 or runs[name][0].processor > 5):
                 continue
             path = target(OURS) if name == BACK else source
-            into = [target(name)] if "convert" in words else []
+            into = [target(name)] if "convert" in programs[OURS] else []
             runs[name].append(
                 measure.run([*words, path, *into], subprocess.DEVNULL, subprocess.DEVNULL)
             )
@@ -115,35 +127,6 @@ def one(measure, program, programs, made, name, scale, count):
     return octets, figures, wrong
 
 
-class Targets:
-    """Prints the figures beside their targets."""
-
-    def __init__(self, figures, growths):
-        self.figures, self.growths, self.missed = figures, growths, 0
-
-    def line(self, text, number, most):
-        self.missed += number > most
-        print(
-            f"- {text}: at most {most:g}, measured {number:.2f}: {'met' if number <= most else 'missed'}"
-        )
-
-    def time(self, name, peer, most, scale=1):
-        _, found = self.figures.get((name, scale), (0, {}))
-        if found.get(peer):
-            self.line(f"{name}: time of {peer}'s", found[OURS][0] / found[peer][0], most)
-
-    def memory(self, name, most, scale=1):
-        if (name, scale) in self.figures:
-            octets, found = self.figures[name, scale]
-            self.line(f"{name}: memory of the input's", found[OURS][1] / octets, most)
-
-    def growth(self, name, most):
-        if name in self.growths:
-            self.line(
-                f"{name}: time of that of a sixteenth of the octets", self.growths[name], most
-            )
-
-
 def growth(measure, words, made, name, turns):
     """Returns how many times as long a file of 16 times the size takes, as the median of the turns.
     In each turn a sixteenth of the file is converted sixteen times and the whole once, so that
@@ -160,26 +143,20 @@ def growth(measure, words, made, name, turns):
 
 def targets(figures, growths):
     """Prints each target, and returns how many are missed."""
-    said = Targets(figures, growths)
-    for name, time, memory in (
-        ("mixed", 0.1, 3),
-        ("keys", 0.22, 3.5),
-        ("chinese", 0.2, 4),
-        ("cyrillic", 0.25, 4),
-        ("numbers", 0.12, 4),
-    ):
-        said.time(name, CRATE, time)
-        said.memory(name, memory)
-    said.time("data", COPY, 1.1)
-    said.memory("data", 1.1)
-    for name, time in (("project", 0.13), ("strings", 0.15), ("strings16", 0.18)):
-        said.time(name, OPENSTEP, time)
-        said.memory(name, 4)
-    for name in files.BINARY:
-        said.growth(name, 18)
-    for name in files.TEXTS:
-        said.growth(name, 17.5)
-    return said.missed
+    lines = []
+    for name, (peer, time, memory) in TARGETS.items():
+        octets, found = figures.get((name, 1), (0, {}))
+        if found.get(peer):
+            lines.append((f"{name}: time of {peer}'s", found[OURS][0] / found[peer][0], time))
+        if found:
+            lines.append((f"{name}: memory of the input's", found[OURS][1] / octets, memory))
+        if name in growths:
+            most = 18 if name in files.BINARY else 17.5
+            lines.append((f"{name}: time of that of a sixteenth", growths[name], most))
+    for text, number, most in lines:
+        told = "met" if number <= most else "missed"
+        print(f"- {text}: at most {most:g}, measured {number:.2f}: {told}")
+    return sum(number > most for _, number, most in lines)
 
 
 def read_words():
@@ -200,7 +177,7 @@ def kinds(words, folder):
     under = lambda path: [os.path.abspath(path), *words.command.split()]
     first = {OURS: under(words.program)}
     if words.other:
-        every = [*files.BINARY, *files.TEXTS, *shapes.BINARY, *shapes.TEXTS]
+        every = [*files.BINARY, *files.TEXTS, *shapes.BINARY, *shapes.WRITTEN]
         found = dict.fromkeys(every, {**first, OTHER: under(words.other)})
     else:
         of_binary = {**first, **peers.found(peers.OF_BINARY, folder)}

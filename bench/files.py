@@ -93,10 +93,10 @@ TEXTS = {
 
 
 def make(name, scale, path):
-    makers = {**TEXTS, **shapes.TEXTS, **BINARY, **shapes.BINARY}
+    makers = {**TEXTS, **shapes.WRITTEN, **BINARY, **shapes.BINARY}
     made = makers[name](scale)
     with open(path, "wb") as target:
-        if name in TEXTS or name in shapes.TEXTS:
+        if name in TEXTS or name in shapes.WRITTEN:
             target.write(made)
         else:
             plistlib.dump(made, target, fmt=plistlib.FMT_BINARY, sort_keys=False)

@@ -102,31 +102,27 @@ SHORT_TESTS = {
     "program_tests": ("growths::",),
 }
 
-WORDS = [
-    ["convert", "binary1", "IN", "out"],
-    ["convert", "openstep", "IN", "out"],
-    ["lint", "IN"],
-    ["check", "IN"],
-    ["print", "IN"],
-    ["same", "IN", "table.txt"],
-    ["same", "unsorted.bin", "IN"],
-    ["lint", "table.txt", "IN", "shared.bin"],
-    ["check", "unsorted.bin", "IN", "shared.bin"],
-]
-OTHER_WORDS = [
-    ["--help"],
-    ["convert", "--help"],
-    ["--version"],
-    ["turn", "table.bin"],
-    ["check"],
-    ["lint", "missing"],
-    ["check", "missing"],
-    ["convert", "binary1", "table.bin", "no/out"],
-    ["same", "table.bin", "missing"],
-    ["explain"],
-    ["explain", "14"],
-    ["explain", "turn"],
-]
+WORDS = """convert binary1 IN out
+convert openstep IN out
+lint IN
+check IN
+print IN
+same IN table.txt
+same unsorted.bin IN
+lint table.txt IN shared.bin
+check unsorted.bin IN shared.bin""".splitlines()
+OTHER_WORDS = """--help
+convert --help
+--version
+turn table.bin
+check
+lint missing
+check missing
+convert binary1 table.bin no/out
+same table.bin missing
+explain
+explain 14
+explain turn""".splitlines()
 
 
 # The test that reads the value of the file that plistconv_check is tried on.
@@ -269,9 +265,9 @@ def how_it_ended(words, ending, ample):
 def program_runs(program, names):
     for words in WORDS:
         for name in names:
-            yield [program, *(name if word == "IN" else word for word in words)], b""
+            yield [program, *words.replace("IN", name).split()], b""
     for words in OTHER_WORDS:
-        yield [program, *words], b""
+        yield [program, *words.split()], b""
     for name in names:
         yield [program], INPUTS[name]
 

@@ -209,6 +209,43 @@ def overlapping_later(size):
     )
 
 
+ASCII, WIDE = 0x50, 0x60
+
+
+def alike_keys(size, forms, overlapping):
+    """Returns an array of dictionaries with the same 16 long keys, each in an order of its own. The
+    keys are stored in these forms in turn, and leave what they begin with each a little later than
+    the one before. A dictionary of so many keys that overlap comes first, if there are any."""
+    count, length, width, chance = 16, 2000, 3, random.Random(16)
+    keys = []
+    for place in range(count):
+        form, units = forms[place % len(forms)], b"a" * (length - 20 * (count - place)) + b"b"
+        keys.append(head(form, length) + numbers(units.ljust(length, b"a"), 1 + (form == WIDE)))
+    over = overlapping_strings(overlapping, size // 50) if overlapping else []
+    made = (size - len(b"".join([*keys, *over]))) // (2 * width * count + 10)
+    at = made + 2 + bool(over)
+    lists = [range(at + count, at + count + overlapping)] * bool(over)
+    lists += [chance.sample(range(at, at + count), count) for _ in range(made)]
+    tables = [dictionary(one, at - 1, width) for one in lists]
+    return joined([array(range(1, at - 1), width), *tables, b"Qx", *keys, *over], width)
+
+
+def mixed_overlapping(size):
+    return alike_keys(size, (ASCII, WIDE), 64)
+
+
+def ascii_overlapping(size):
+    return alike_keys(size, (ASCII,), 64)
+
+
+def wide_overlapping(size):
+    return alike_keys(size, (WIDE,), 64)
+
+
+def mixed_apart(size):
+    return alike_keys(size, (ASCII, WIDE), 0)
+
+
 def agreeing_keys(size):
     """Returns an array of dictionaries of the same 256 long UTF-16 keys, each in another order. The keys overlap: their
     heads stand every 64 bytes in what all of them repeat, so that two agree up to the last head."""

@@ -15,15 +15,11 @@ REGISTRY = "/usr/share/cargo/registry"
 PYTHON = "/usr/bin/python3"
 
 
-def quiet(words, **more):
+def succeeds(words, **more):
     """Returns whether the command exists and succeeds."""
+    quiet = {"stdout": subprocess.DEVNULL, "stderr": subprocess.DEVNULL}
     try:
-        return (
-            subprocess.run(
-                words, stdout=subprocess.DEVNULL, stderr=subprocess.DEVNULL, check=False, **more
-            ).returncode
-            == 0
-        )
+        return subprocess.run(words, check=False, **quiet, **more).returncode == 0
     except OSError:
         return False
 
@@ -33,12 +29,16 @@ def python():
     return PYTHON if os.path.exists(PYTHON) else shutil.which("python3")
 
 
+def of_c(name, folder, *libraries):
+    """Returns the driver of this name, built with cc."""
+    program, source = os.path.join(folder, name), os.path.join(DRIVERS, name + ".c")
+    return [program] if succeeds(["cc", "-O2", "-o", program, source, *libraries]) else None
+
+
 def copy(folder):
     """Reads the file and writes it, a lower bound for every conversion that keeps
     its input in memory."""
-    program = os.path.join(folder, "copy")
-    built = quiet(["cc", "-O2", "-o", program, os.path.join(DRIVERS, "copy.c")])
-    return [program] if built else None
+    return of_c("copy", folder)
 
 
 def plist_crate(folder):
@@ -47,25 +47,14 @@ def plist_crate(folder):
         return None
     root = os.path.join(folder, "plist_crate")
     shutil.copytree(os.path.join(DRIVERS, "plist_crate"), root)
-    words = [
-        "cargo",
-        "build",
-        "--offline",
-        "--release",
-        "--config",
-        'source.crates-io.replace-with="debian"',
-        "--config",
-        f'source.debian.directory="{REGISTRY}"',
-    ]
-    return (
-        [os.path.join(root, "target", "release", "plist_crate")] if quiet(words, cwd=root) else None
-    )
+    sources = ('crates-io.replace-with="debian"', f'debian.directory="{REGISTRY}"')
+    more = [word for source in sources for word in ("--config", "source." + source)]
+    built = succeeds(["cargo", "build", "--offline", "--release", *more], cwd=root)
+    return [os.path.join(root, "target", "release", "plist_crate")] if built else None
 
 
 def libplist(folder):
-    program = os.path.join(folder, "libplist")
-    source = os.path.join(DRIVERS, "libplist.c")
-    return [program] if quiet(["cc", "-O2", "-o", program, source, "-lplist-2.0"]) else None
+    return of_c("libplist", folder, "-lplist-2.0")
 
 
 def plistlib(folder):
@@ -73,7 +62,7 @@ def plistlib(folder):
 
 
 def openstep_plist(folder):
-    found = quiet([python(), "-c", "import openstep_plist"])
+    found = succeeds([python(), "-c", "import openstep_plist"])
     return [python(), os.path.join(DRIVERS, "with_openstep_plist.py")] if found else None
 
 

@@ -5,6 +5,8 @@ import datetime
 import random
 import string
 
+from hostile_files import head, joined, numbers
+
 EPOCH = datetime.datetime(2001, 1, 1)
 
 
@@ -76,6 +78,13 @@ def reals(chance, scale):
 
 def integers(chance, scale):
     return [chance.randrange(-(1 << 63), 1 << 64) for _ in range(int(400_000 * scale))]
+
+
+def few_integers(chance, scale):
+    """A file of integers below 2^16, each an object of its own."""
+    count = int(1_000_000 * scale)
+    each = [b"\x11" + numbers([chance.randrange(1 << 16)], 2) for _ in range(count)]
+    return joined([head(0xA0, count) + numbers(range(1, count + 1), 3), *each], 3)
 
 
 def dates(chance, scale):
@@ -160,4 +169,4 @@ BINARY = seeded(
     dates,
     few_strings,
 )
-TEXTS = seeded(plain_text, wide_text, chinese_text, data_text, coordinates)
+WRITTEN = seeded(few_integers, plain_text, wide_text, chinese_text, data_text, coordinates)
