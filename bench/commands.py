@@ -27,15 +27,13 @@ REFERENCES = {f"{count:,} references": count for count in (1_000_000, 16_777_215
 MEBIBYTE, COUNT = 1 << 20, 1_000
 
 
-class Limits:
-    """The limits that are missed."""
+MISSED = []
 
-    def __init__(self):
-        self.missed = []
 
-    def hold(self, number, most, of):
-        if number > most:
-            self.missed.append(f"{of}: {number:.3f}, at most {most:.3f}")
+def hold(number, most, of):
+    """Notes a limit that is missed."""
+    if number > most:
+        MISSED.append(f"{of}: {number:.3f}, at most {most:.3f}")
 
 
 def write_source(name, path):
@@ -63,7 +61,7 @@ def least(measure, commands):
     return seconds, {name: max(run.octets for run in runs) for name, runs in columns.items()}
 
 
-def of_files(program, measure, limits):
+def of_files(program, measure):
     """Prints the row of each file."""
     beside, names = [], ("check", "convert", "same", "lint", "print", "write")
     print(f"| file | bytes | printed | {', s | '.join(names)}, s | lint, MiB | print, MiB |")
@@ -89,16 +87,16 @@ def of_files(program, measure, limits):
             flush=True,
         )
         if name in CHECKED:
-            limits.hold(time["check"], 0.6 * time["convert"], f"{name}: seconds of check")
-            limits.hold(time["same"], 1.3 * time["lint"], f"{name}: seconds of same")
+            hold(time["check"], 0.6 * time["convert"], f"{name}: seconds of check")
+            hold(time["same"], 1.3 * time["lint"], f"{name}: seconds of same")
         if name in PRINTED:
-            limits.hold(time["print"], time["convert"] + time["write"], f"{name}: seconds of print")
-        limits.hold(memory["print"], memory["lint"] + MEBIBYTE, f"{name}: memory of print")
+            hold(time["print"], time["convert"] + time["write"], f"{name}: seconds of print")
+        hold(memory["print"], memory["lint"] + MEBIBYTE, f"{name}: memory of print")
         beside += [memory["print"] - size] * (name in REFERENCES)
-    limits.hold(max(beside) - min(beside), MEBIBYTE, "memory of print that grows with the output")
+    hold(max(beside) - min(beside), MEBIBYTE, "memory of print that grows with the output")
 
 
-def of_many(program, measure, limits):
+def of_many(program, measure):
     """Prints the row of `lint` and of `check`."""
     print("\n| command | one call, s | calls, s | memory of several, MB | of the largest, MB |")
     print("|---" * 5 + "|")
@@ -125,19 +123,19 @@ def of_many(program, measure, limits):
             flush=True,
         )
         is_wrong = once.status or mixed.status or once.printed != "\n".join(lines)
-        limits.hold(is_wrong, 0, f"{word}: lines or statuses that differ")
-        limits.hold(once.seconds, 0.1 * calls, f"{word}: seconds of one call")
-        limits.hold(mixed.octets, 1.1 * alone.octets, f"{word}: memory of several")
+        hold(is_wrong, 0, f"{word}: lines or statuses that differ")
+        hold(once.seconds, 0.1 * calls, f"{word}: seconds of one call")
+        hold(mixed.octets, 1.1 * alone.octets, f"{word}: memory of several")
 
 
 def main():
-    program, limits = os.path.abspath(sys.argv[1] if len(sys.argv) > 1 else "./plistconv"), Limits()
+    program = os.path.abspath(sys.argv[1] if len(sys.argv) > 1 else "./plistconv")
     with tempfile.TemporaryDirectory() as folder:
         os.chdir(folder)
         for table in (of_files, of_many):
-            table(program, Measure(folder), limits)
-    print("\n".join(limits.missed or ["No limit is missed."]))
-    return 1 if limits.missed else 0
+            table(program, Measure(folder))
+    print("\n".join(MISSED or ["No limit is missed."]))
+    return 1 if MISSED else 0
 
 
 if __name__ == "__main__":
