@@ -34,12 +34,12 @@ impl<'a> Cursor<'a> {
         self.end - self.source.len()
     }
 
-    /// Returns whether the input is UTF-8.
+    // Returns whether the input is UTF-8.
     pub(crate) fn is_utf8(self) -> bool {
         matches!(self.source, Source::Utf8(_))
     }
 
-    /// Returns the first character at the cursor, and the cursor after it.
+    // Returns the first character at the cursor, and the cursor after it.
     #[inline(always)]
     #[tactic(auto, unfolding(crate::specs::Cursor::ahead, crate::specs::Cursor::offsets_in))]
     pub(crate) fn first(self) -> Option<(char, Cursor<'a>)>
@@ -56,7 +56,7 @@ impl<'a> Cursor<'a> {
         ))
     }
 
-    /// Returns the cursor after the longest stretch of the class.
+    // Returns the cursor after the longest stretch of the class.
     #[inline(always)]
     #[tactic(auto, unfolding(crate::specs::Cursor::ahead, crate::specs::Cursor::offsets_in))]
     pub(crate) fn after_stretch(self, class: Class) -> Cursor<'a>
@@ -68,8 +68,8 @@ impl<'a> Cursor<'a> {
         }
     }
 
-    /// Returns the bytes of the longest stretch of the class, one for each character, and the
-    /// cursor after it. Returns `None` for UTF-16.
+    // Returns the bytes of the longest stretch of the class, one for each character, and the
+    // cursor after it. Returns `None` for UTF-16.
     #[inline(always)]
     #[tactic(auto, unfolding(crate::specs::Cursor::ahead, crate::specs::Cursor::offsets_in))]
     pub(crate) fn plain_stretch(self, class: Class) -> Option<(&'a [u8], Cursor<'a>)>
@@ -85,7 +85,7 @@ impl<'a> Cursor<'a> {
         ))
     }
 
-    /// Appends the characters of the longest stretch of the class and returns the cursor after it.
+    // Appends the characters of the longest stretch of the class and returns the cursor after it.
     #[inline(always)]
     #[tactic(auto, unfolding(crate::specs::Cursor::ahead, crate::specs::Cursor::offsets_in))]
     pub(crate) fn push_stretch(
@@ -102,8 +102,8 @@ impl<'a> Cursor<'a> {
         })
     }
 
-    /// Appends the bytes of the pairs of hexadecimal digits at the cursor and returns the cursor
-    /// after them. Appends nothing for UTF-16.
+    // Appends the bytes of the pairs of hexadecimal digits at the cursor and returns the cursor
+    // after them. Appends nothing for UTF-16.
     #[tactic(auto, unfolding(crate::specs::Cursor::ahead, crate::specs::Cursor::offsets_in))]
     pub(crate) fn push_pairs(self, found: &mut Vec<u8>) -> Result<Cursor<'a>, AllocError>
         ensures { IfOk result (PassesPairs found.old.items found.new.items self.entry) }
@@ -115,7 +115,7 @@ impl<'a> Cursor<'a> {
         })
     }
 
-    /// Returns the cursor after the character, if it is the first.
+    // Returns the cursor after the character, if it is the first.
     pub(crate) fn after(self, wanted: char) -> Option<Cursor<'a>>
         ensures { MatchOption result (begins_with wanted (ahead self.entry) ≡ false) (λ after.
             (ahead self.entry ≡ wanted ∷ ahead after) × SameInput self.entry after) }
@@ -126,7 +126,7 @@ impl<'a> Cursor<'a> {
         }
     }
 
-    /// Returns the cursor at the start of UTF-8 bytes at the end of an input of `end` bytes.
+    // Returns the cursor at the start of UTF-8 bytes at the end of an input of `end` bytes.
     #[tactic(auto, unfolding(crate::specs::Cursor::ahead, crate::specs::Cursor::offsets_in))]
     pub(crate) fn of_utf8(octets: &'a [u8], end: usize) -> Result<Cursor<'a>, LexFault>
         requires { length octets.now ≤ end }
@@ -144,7 +144,7 @@ impl<'a> Cursor<'a> {
         }
     }
 
-    /// Returns the cursor at the start of UTF-16 bytes at the end of an input of `end` bytes.
+    // Returns the cursor at the start of UTF-16 bytes at the end of an input of `end` bytes.
     #[tactic(auto, unfolding(crate::specs::Cursor::ahead, crate::specs::Cursor::offsets_in))]
     pub(crate) fn of_utf16(
         order: ByteOrder,

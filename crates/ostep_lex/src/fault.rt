@@ -71,8 +71,8 @@ impl LexFault {
     }
 }
 
-/// Prints the number, the name and the position of the refusal, such as `24 UnclosedString at octet
-/// 2`.
+// Prints the number, the name and the position of the refusal, such as `24 UnclosedString at octet
+// 2`.
 impl fmt::Display for LexFault {
     ghost output = { λ fault. Some (text_of_fault fault) };
 

@@ -10,7 +10,7 @@ use crate::cursor::Cursor;
 use crate::fault::LexFault;
 use crate::stretch::Class;
 
-/// Takes the cursor after `//`. Returns the cursor at the line end, or at the end of the text.
+// Takes the cursor after `//`. Returns the cursor at the line end, or at the end of the text.
 fn line_comment(cursor: Cursor<'_>) -> Cursor<'_>
     ensures comment { LineComment (ahead cursor.entry) (ahead result) }
     ensures input { SameInput cursor.entry result }
@@ -25,7 +25,7 @@ fn line_comment(cursor: Cursor<'_>) -> Cursor<'_>
     rest
 }
 
-/// Returns the cursor after `*/`, if it is at the cursor.
+// Returns the cursor after `*/`, if it is at the cursor.
 fn comment_end(cursor: Cursor<'_>) -> Option<Cursor<'_>>
     ensures { MatchOption result (closes_comment (ahead cursor.entry) ≡ false) (λ end.
         (ahead cursor.entry ≡ codes "*/" ++ ahead end) × SameInput cursor.entry end) }
@@ -33,8 +33,8 @@ fn comment_end(cursor: Cursor<'_>) -> Option<Cursor<'_>>
     cursor.after('*')?.after('/')
 }
 
-/// Takes the cursor after `/*`. Returns the cursor after the first `*/`, or `None` if there is no
-/// `*/`.
+// Takes the cursor after `/*`. Returns the cursor after the first `*/`, or `None` if there is no
+// `*/`.
 fn block_comment(cursor: Cursor<'_>) -> Option<Cursor<'_>>
     ensures { MatchOption result (NeverCloses (ahead cursor.entry)) (λ end.
         BlockComment (ahead cursor.entry) (ahead end) × SameInput cursor.entry end) }
@@ -49,8 +49,8 @@ fn block_comment(cursor: Cursor<'_>) -> Option<Cursor<'_>>
     None
 }
 
-/// Returns the cursor after the comment at the cursor, or `None` if there is no comment. `slash` is
-/// the cursor after the first slash.
+// Returns the cursor after the comment at the cursor, or `None` if there is no comment. `slash` is
+// the cursor after the first slash.
 fn comment<'a>(cursor: Cursor<'a>, slash: Cursor<'a>) -> Result<Option<Cursor<'a>>, LexFault>
     requires slash { ahead cursor ≡ codes "/" ++ ahead slash }
     requires input { SameInput cursor slash }
@@ -72,8 +72,8 @@ fn comment<'a>(cursor: Cursor<'a>, slash: Cursor<'a>) -> Result<Option<Cursor<'a
     }
 }
 
-/// Returns the cursor after the whitespace character or the comment at the cursor, or `None` if
-/// there is neither.
+// Returns the cursor after the whitespace character or the comment at the cursor, or `None` if
+// there is neither.
 fn gap_piece(cursor: Cursor<'_>) -> Result<Option<Cursor<'_>>, LexFault>
     ensures ok { IfOk result (λ found.
         MatchOption found (begins_gap (ahead cursor.entry) ≡ false) (PassesPiece cursor.entry)) }
@@ -91,7 +91,7 @@ fn gap_piece(cursor: Cursor<'_>) -> Result<Option<Cursor<'_>>, LexFault>
     }
 }
 
-/// Returns whether there is neither whitespace nor a comment at the cursor. `false` is only a hint.
+// Returns whether there is neither whitespace nor a comment at the cursor. `false` is only a hint.
 #[inline(always)]
 fn is_over(cursor: Cursor<'_>) -> bool
     ensures { IsTrue result → begins_gap (ahead cursor.entry) ≡ false }
@@ -116,7 +116,7 @@ pub fn gap(cursor: Cursor<'_>) -> Result<Cursor<'_>, LexFault>
     }
 }
 
-/// Returns the cursor after all whitespace and comments.
+// Returns the cursor after all whitespace and comments.
 #[inline(never)]
 fn whole_gap(cursor: Cursor<'_>) -> Result<Cursor<'_>, LexFault>
     ensures ok { IfOk result (PassesGap cursor.entry) }

@@ -20,7 +20,7 @@ use crate::token::{Token, TokenKind};
 use plist_value::Utf16;
 use std::alloc::Global;
 
-/// Returns the punctuation token of a character.
+// Returns the punctuation token of a character.
 fn mark_token(c: char) -> Option<TokenKind>
     ensures { option_map lexeme_of result ≡ mark_token c }
 {
@@ -36,8 +36,8 @@ fn mark_token(c: char) -> Option<TokenKind>
     }
 }
 
-/// Returns the token at the cursor and the cursor after it, or `None` at the end. There is no gap
-/// at the cursor.
+// Returns the token at the cursor and the cursor after it, or `None` at the end. There is no gap
+// at the cursor.
 fn token_here(
     alloc: Global,
     cursor: Cursor<'_>,

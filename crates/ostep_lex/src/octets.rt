@@ -10,7 +10,7 @@ use crate::cursor::Cursor;
 use crate::fault::LexFault;
 use std::alloc::Global;
 
-/// Returns the value of the hexadecimal digit at the cursor, and the cursor after it.
+// Returns the value of the hexadecimal digit at the cursor, and the cursor after it.
 fn digit(cursor: Cursor<'_>) -> Option<(u32, Cursor<'_>)>
     ensures { MatchOption result (begins_digit 16 (ahead cursor.entry) ≡ false)
         (λ found. PassesDigit found.0 cursor.entry found.1) }
@@ -19,8 +19,8 @@ fn digit(cursor: Cursor<'_>) -> Option<(u32, Cursor<'_>)>
     Some((c.to_digit(16)?, after))
 }
 
-/// Skips whitespace, or appends the byte of two hexadecimal digits. The first character is `c`, and
-/// `after` is the cursor after it.
+// Skips whitespace, or appends the byte of two hexadecimal digits. The first character is `c`, and
+// `after` is the cursor after it.
 fn push_octet<'a>(
     octets: &mut Vec<u8>,
     cursor: Cursor<'a>,

@@ -16,7 +16,7 @@ const LITTLE_MARK: [u8; 2] = [0xff, 0xfe];
 
 const UTF8_MARK: [u8; 3] = [0xef, 0xbb, 0xbf];
 
-/// Returns the cursor at the start of the text. Its byte order mark determines the encoding.
+// Returns the cursor at the start of the text. Its byte order mark determines the encoding.
 fn text_of(octets: &[u8]) -> Result<Cursor<'_>, LexFault>
     ensures ok { IfOk result (Opens octets.now) }
     ensures err { IfErr result (StandsInTokens octets.now) }
@@ -34,7 +34,7 @@ fn text_of(octets: &[u8]) -> Result<Cursor<'_>, LexFault>
     }
 }
 
-/// Returns the cursor after all whitespace.
+// Returns the cursor after all whitespace.
 fn after_white(cursor: Cursor<'_>) -> Cursor<'_>
     ensures white { White (ahead cursor.entry) (ahead result) }
     ensures input { SameInput cursor.entry result }
@@ -49,7 +49,7 @@ fn after_white(cursor: Cursor<'_>) -> Cursor<'_>
     rest
 }
 
-/// Returns whether the ASCII word is at the cursor.
+// Returns whether the ASCII word is at the cursor.
 fn begins_with(cursor: Cursor<'_>, word: &[u8]) -> bool
     ensures { result ≡ starts_with nat_eq (ahead cursor.entry) word.now }
 {
@@ -63,7 +63,7 @@ fn begins_with(cursor: Cursor<'_>, word: &[u8]) -> bool
     true
 }
 
-/// Returns whether an XML property list begins at the cursor.
+// Returns whether an XML property list begins at the cursor.
 fn begins_xml(cursor: Cursor<'_>) -> bool
     ensures { result ≡ begins_xml (ahead cursor.entry) }
 {

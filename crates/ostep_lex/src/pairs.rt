@@ -5,7 +5,7 @@ ghost use Rattle.std.specs.Char.{is_digit};
 
 use std::alloc::AllocError;
 
-/// Returns the value of the byte, if it is a hexadecimal digit.
+// Returns the value of the byte, if it is a hexadecimal digit.
 #[inline(always)]
 fn digit_of(octet: u8) -> Option<u8>
     ensures { MatchOption result (is_digit octet 16 ≡ false) (IsDigitOf octet) }
@@ -18,7 +18,7 @@ fn digit_of(octet: u8) -> Option<u8>
     }
 }
 
-/// Returns the byte of the pair of digits at the start, and the bytes after the pair.
+// Returns the byte of the pair of digits at the start, and the bytes after the pair.
 #[inline(always)]
 fn front_pair(octets: &[u8]) -> Option<(u8, &[u8])>
     ensures { IfSome result (λ found. IsPair octets.now found.0 found.1.now) }
@@ -28,7 +28,7 @@ fn front_pair(octets: &[u8]) -> Option<(u8, &[u8])>
     Some((digit_of(*high)? * 16 + digit_of(*low)?, after))
 }
 
-/// Appends the bytes of the pairs of digits at the start, and returns what follows them.
+// Appends the bytes of the pairs of digits at the start, and returns what follows them.
 fn push_pairs<'a>(found: &mut Vec<u8>, octets: &'a [u8]) -> Result<&'a [u8], AllocError>
     ensures { IfOk result
         (λ after. AppendsPairs found.old.items found.new.items octets.now after.now) }

@@ -13,7 +13,7 @@ use crate::stretch::Class;
 use crate::token::PlainToken;
 use plist_value::TextRef;
 
-/// Returns the bytes of the unquoted string at the cursor, and the cursor after it.
+// Returns the bytes of the unquoted string at the cursor, and the cursor after it.
 #[inline(always)]
 fn plain_run(cursor: Cursor<'_>) -> Option<(&[u8], Cursor<'_>)>
     ensures { IfSome result (λ found. PassesRun cursor.entry found.1 found.0.now) }
@@ -25,8 +25,8 @@ fn plain_run(cursor: Cursor<'_>) -> Option<(&[u8], Cursor<'_>)>
     }
 }
 
-/// Returns the bytes of the string after its quote, if it has no escapes, and the cursor after the
-/// closing quote.
+// Returns the bytes of the string after its quote, if it has no escapes, and the cursor after the
+// closing quote.
 #[inline(always)]
 fn plain_quoted(mark: char, cursor: Cursor<'_>) -> Option<(&[u8], Cursor<'_>)>
     ensures { IfSome result (λ found. PassesQuoted mark cursor.entry found.1 found.0.now) }
@@ -36,7 +36,7 @@ fn plain_quoted(mark: char, cursor: Cursor<'_>) -> Option<(&[u8], Cursor<'_>)>
     Some((octets, end))
 }
 
-/// Returns the bytes of the string at the cursor, and the cursor after it.
+// Returns the bytes of the string at the cursor, and the cursor after it.
 #[inline(always)]
 fn plain_here(cursor: Cursor<'_>) -> Option<(&[u8], Cursor<'_>)>
     ensures { IfSome result (λ found. PassesToken (string found.0.now) cursor.entry found.1) }

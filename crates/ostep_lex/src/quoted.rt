@@ -35,10 +35,10 @@ pub fn run(alloc: Global, cursor: Cursor<'_>) -> Result<(Vec<u16>, Cursor<'_>), 
     Ok((units, rest))
 }
 
-/// The capacity that is reserved when a string has to grow by a character.
+// The capacity that is reserved when a string has to grow by a character.
 const LEAST_ROOM: usize = 32;
 
-/// Appends the units of the character.
+// Appends the units of the character.
 #[tactic(auto, using(crate::proofs::StretchLemmas::one_unit))]
 fn push_character(units: &mut Vec<u16>, c: char) -> Result<(), AllocError>
     ensures { OnOk result (units.new.items ≡ units.old.items ++ encode_utf16 c) }
@@ -54,7 +54,7 @@ fn push_character(units: &mut Vec<u16>, c: char) -> Result<(), AllocError>
     units.extend_from_slice(c.encode_utf16(&mut buffer))
 }
 
-/// Returns the character that an escape of this letter encodes. Any other character encodes itself.
+// Returns the character that an escape of this letter encodes. Any other character encodes itself.
 fn escaped_character(c: char) -> char
     ensures { result ≡ escaped c }
 {
@@ -70,8 +70,8 @@ fn escaped_character(c: char) -> char
     }
 }
 
-/// Appends the unit of an octal escape. `backslash` is the cursor at its backslash, and `digits`
-/// the cursor at its digits.
+// Appends the unit of an octal escape. `backslash` is the cursor at its backslash, and `digits`
+// the cursor at its digits.
 fn push_octal<'a>(
     units: &mut Vec<u16>,
     backslash: Cursor<'a>,
@@ -94,8 +94,8 @@ fn push_octal<'a>(
     Ok(end)
 }
 
-/// Appends the unit of an escape in hexadecimal digits. `backslash` is the cursor at its backslash,
-/// and `digits` the cursor after its `U`.
+// Appends the unit of an escape in hexadecimal digits. `backslash` is the cursor at its backslash,
+// and `digits` the cursor after its `U`.
 fn push_unit<'a>(
     units: &mut Vec<u16>,
     backslash: Cursor<'a>,
@@ -119,8 +119,8 @@ fn push_unit<'a>(
     Ok(end)
 }
 
-/// Appends the units of the escape at the cursor, which is after the backslash. The quote of the
-/// string is at offset `start`.
+// Appends the units of the escape at the cursor, which is after the backslash. The quote of the
+// string is at offset `start`.
 fn push_escape<'a>(
     units: &mut Vec<u16>,
     start: usize,
@@ -146,8 +146,8 @@ fn push_escape<'a>(
     Ok(after)
 }
 
-/// Appends the units of the piece at the cursor. The first character is `c`, and `after` is the
-/// cursor after it.
+// Appends the units of the piece at the cursor. The first character is `c`, and `after` is the
+// cursor after it.
 fn push_piece<'a>(
     units: &mut Vec<u16>,
     start: usize,
@@ -169,8 +169,8 @@ fn push_piece<'a>(
     Ok(after)
 }
 
-/// Appends a stretch of unescaped characters of a string with this quote. Inlined, so that no other
-/// code can see the vector that is filled.
+// Appends a stretch of unescaped characters of a string with this quote. Inlined, so that no other
+// code can see the vector that is filled.
 #[inline(always)]
 fn push_raw<'a>(
     units: &mut Vec<u16>,
@@ -183,8 +183,8 @@ fn push_raw<'a>(
     cursor.push_stretch(Class::Raw(mark), units)
 }
 
-/// Appends the stretch that follows this character. Characters that are not ASCII mostly follow
-/// each other, so no stretch is looked for after one.
+// Appends the stretch that follows this character. Characters that are not ASCII mostly follow
+// each other, so no stretch is looked for after one.
 #[inline(always)]
 fn push_raw_after<'a>(
     units: &mut Vec<u16>,

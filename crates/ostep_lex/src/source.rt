@@ -27,7 +27,7 @@ pub enum Source<'a> {
     Utf16(ByteOrder, &'a [u8]),
 }
 
-/// Returns the unit of two bytes.
+// Returns the unit of two bytes.
 fn unit(order: ByteOrder, first: u8, second: u8) -> u16
     ensures { unit_octets order result ≡ first ∷ second ∷ [] }
 {
@@ -48,7 +48,7 @@ pub fn front_unit(order: ByteOrder, octets: &[u8]) -> Option<(u16, &[u8])>
     }
 }
 
-/// Returns the first character of UTF-16 bytes, and the bytes after it.
+// Returns the first character of UTF-16 bytes, and the bytes after it.
 #[inline(always)]
 fn front_character(order: ByteOrder, octets: &[u8]) -> Option<(char, &[u8])>
     ensures { MatchOption result (BeginsWithNone (encoding_by order) octets.now)
@@ -78,7 +78,7 @@ pub fn after_characters(order: ByteOrder, octets: &[u8]) -> &[u8]
     rest
 }
 
-/// Like [`front_character`], but not inlined: most inputs are UTF-8 and do not need its code.
+// Like [`front_character`], but not inlined: most inputs are UTF-8 and do not need its code.
 #[inline(never)]
 fn front_character_out_of_line(order: ByteOrder, octets: &[u8]) -> Option<(char, &[u8])>
     ensures { MatchOption result (BeginsWithNone (encoding_by order) octets.now)
@@ -87,7 +87,7 @@ fn front_character_out_of_line(order: ByteOrder, octets: &[u8]) -> Option<(char,
     front_character(order, octets)
 }
 
-/// Returns the first character of a text, and the text after it.
+// Returns the first character of a text, and the text after it.
 fn front_of_str(text: &str) -> Option<(char, &str)>
     ensures { MatchOption result (chars text.now ≡ []) (λ found.
         (text.now ≡ spelling utf8 found.0 ++ found.1.now)

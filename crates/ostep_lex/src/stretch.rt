@@ -25,7 +25,7 @@ pub enum Class {
     Starless,
 }
 
-/// Returns whether the character is of the class.
+// Returns whether the character is of the class.
 #[inline(always)]
 fn is_of(class: Class, c: char) -> bool
     ensures { result ≡ belongs class c }
@@ -39,7 +39,7 @@ fn is_of(class: Class, c: char) -> bool
     }
 }
 
-/// Returns whether the byte is an ASCII character of the class.
+// Returns whether the byte is an ASCII character of the class.
 #[inline(always)]
 fn is_in(class: Class, octet: u8) -> bool
     ensures { result ≡ (nat_lt octet 128 && belongs class octet) }
@@ -47,7 +47,7 @@ fn is_in(class: Class, octet: u8) -> bool
     is_of(class, char::from(octet)) && octet < 0x80
 }
 
-/// Returns whether the unit is a character of the class below the surrogates.
+// Returns whether the unit is a character of the class below the surrogates.
 #[inline(always)]
 fn is_unit_in(class: Class, unit: u16) -> bool
     ensures { result ≡ (nat_lt unit 0xD800 && belongs class unit) }
@@ -58,7 +58,7 @@ fn is_unit_in(class: Class, unit: u16) -> bool
     }
 }
 
-/// Returns the bytes after the longest stretch at their start.
+// Returns the bytes after the longest stretch at their start.
 #[inline(always)]
 fn after_stretch(octets: &[u8], class: Class) -> &[u8]
     ensures { BeginsWithStretch class octets.now result.now }
@@ -96,7 +96,7 @@ pub fn push_octets(units: &mut Vec<u16>, octets: &[u8]) -> Result<(), AllocError
     Ok(())
 }
 
-/// Returns the bytes after the first unit of UTF-16, if it is of the class.
+// Returns the bytes after the first unit of UTF-16, if it is of the class.
 #[inline(always)]
 fn after_unit(class: Class, order: ByteOrder, octets: &[u8]) -> Option<&[u8]>
     ensures begins { IfSome result (λ after. BeginsWithUnits class order octets.now after.now) }
@@ -110,7 +110,7 @@ fn after_unit(class: Class, order: ByteOrder, octets: &[u8]) -> Option<&[u8]>
     }
 }
 
-/// Returns the bytes after the longest stretch at the start of UTF-16 bytes.
+// Returns the bytes after the longest stretch at the start of UTF-16 bytes.
 #[inline(always)]
 fn after_units_by(class: Class, order: ByteOrder, octets: &[u8]) -> &[u8]
     ensures { BeginsWithUnits class order octets.now result.now }
@@ -133,7 +133,7 @@ pub fn after_units(class: Class, order: ByteOrder, octets: &[u8]) -> &[u8]
     }
 }
 
-/// Appends the units of the bytes, of two bytes each.
+// Appends the units of the bytes, of two bytes each.
 #[inline(always)]
 fn push_all_units(units: &mut Vec<u16>, order: ByteOrder, octets: &[u8]) -> Result<(), AllocError>
     ensures { OnOk result

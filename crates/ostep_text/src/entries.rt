@@ -4,10 +4,10 @@ ghost use Rattle.std.specs.Result.{OnOk};
 
 use std::alloc::{AllocError, Global};
 
-/// The capacity that is reserved at first, so that small dictionaries allocate once.
+// The capacity that is reserved at first, so that small dictionaries allocate once.
 const LEAST_ROOM: usize = 8;
 
-/// The keys and the values of the rows, in the order of the text: key k belongs to value k.
+// The keys and the values of the rows, in the order of the text: key k belongs to value k.
 #[derive(Drop)]
 pub(crate) struct Rows {
     pub(crate) keys: Vec<u32>,
@@ -25,7 +25,7 @@ impl Rows {
         }
     }
 
-    /// Appends a row, which is a key and its value.
+    // Appends a row, which is a key and its value.
     pub(crate) fn push(&mut self, row: (u32, u32)) -> Result<(), AllocError>
         ensures keys { OnOk result (self.new.keys.items ≡ self.old.keys.items ++ row.0 ∷ []) }
         ensures values { OnOk result

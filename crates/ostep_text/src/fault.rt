@@ -96,7 +96,7 @@ impl TextFault {
     }
 }
 
-/// Prints the number, the name and the place of the refusal, such as `30 Expected at octet 4`.
+// Prints the number, the name and the place of the refusal, such as `30 Expected at octet 4`.
 impl fmt::Display for TextFault {
     ghost output = { λ fault. Some (text_of_fault fault) };
 
@@ -106,7 +106,7 @@ impl fmt::Display for TextFault {
     }
 }
 
-/// Keeps the name of a fault of the tokens.
+// Keeps the name of a fault of the tokens.
 impl From<LexFault> for TextFault {
     ghost from_gives = { λ fault e. e ≡ of_tokens fault };
 

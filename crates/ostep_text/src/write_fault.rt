@@ -35,7 +35,7 @@ impl TextWriteFault {
     }
 }
 
-/// Prints the number and the name of the refusal, such as `40 NotInOpenStep`.
+// Prints the number and the name of the refusal, such as `40 NotInOpenStep`.
 impl fmt::Display for TextWriteFault {
     ghost output = { λ fault. Some (text_of_fault fault) };
 

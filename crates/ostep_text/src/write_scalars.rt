@@ -11,7 +11,7 @@ use std::alloc::AllocError;
 
 static BINARY: [u16; 6] = [0x62, 0x70, 0x6c, 0x69, 0x73, 0x74];
 
-/// Appends the bytes as data to `out`.
+// Appends the bytes as data to `out`.
 pub(crate) fn put_data(out: &mut Vec<u8>, octets: &[u8]) -> Result<(), AllocError>
     ensures { OnOk result (out.new.items ≡ out.old.items ++ written_data octets.now) }
 {
@@ -22,7 +22,7 @@ pub(crate) fn put_data(out: &mut Vec<u8>, octets: &[u8]) -> Result<(), AllocErro
     Ok(())
 }
 
-/// Appends the string to `out`, without quotes if it is plain.
+// Appends the string to `out`, without quotes if it is plain.
 pub(crate) fn put_text(out: &mut Vec<u8>, units: &[u16]) -> Result<(), AllocError>
     ensures { OnOk result (out.new.items ≡ out.old.items ++ written_text units.now) }
 {

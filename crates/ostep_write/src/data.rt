@@ -11,11 +11,11 @@ use plist_write::{BufferedSink, WriteFault};
 // The maximum number of bytes whose digits are appended at once.
 const RUN: usize = 2048;
 
-/// Writes data as digits in angle brackets.
-///
-/// # Errors
-///
-/// Fails like [`BufferedSink::put`].
+// Writes data as digits in angle brackets.
+//
+// # Errors
+//
+// Fails like [`BufferedSink::put`].
 pub(crate) fn write_data<W: Sink>(
     octets: &[u8],
     out: &mut BufferedSink<W>,

@@ -15,11 +15,11 @@ use std::alloc::AllocError;
 // The maximum number of bytes that are appended at once.
 const RUN: usize = 4096;
 
-/// Writes a string, without quotes if it is plain.
-///
-/// # Errors
-///
-/// Fails like [`BufferedSink::put`].
+// Writes a string, without quotes if it is plain.
+//
+// # Errors
+//
+// Fails like [`BufferedSink::put`].
 pub(crate) fn write_string<W: Sink>(
     text: &TextRef,
     out: &mut BufferedSink<W>,

@@ -165,8 +165,8 @@ impl BinaryFault {
     }
 }
 
-/// Prints the number, the name and the object of the refusal, such as
-/// `14 DuplicateKey at object 0`.
+// Prints the number, the name and the object of the refusal, such as
+// `14 DuplicateKey at object 0`.
 impl fmt::Display for BinaryFault {
     ghost use Rattle.std.specs.Prelude.{Some};
     ghost use Rattle.plist_binary.specs.Codes.{binary_fault_text};

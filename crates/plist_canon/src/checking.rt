@@ -49,7 +49,7 @@ impl CheckFault {
     }
 }
 
-/// Prints the number and the name of the refusal, such as `1 TooShort`.
+// Prints the number and the name of the refusal, such as `1 TooShort`.
 impl fmt::Display for CheckFault {
     ghost use Rattle.std.specs.Prelude.{Some};
     ghost use Rattle.plist_canon.specs.Codes.{check_text};

@@ -23,7 +23,7 @@ use plist_write::RepeatFilterBuilder;
 use std::alloc::{AllocError, AllocFailed, Global};
 use std::hash::BuildHasher;
 
-/// A broken rule and the object that breaks it, or out of memory.
+// A broken rule and the object that breaks it, or out of memory.
 #[derive(Clone, Copy)]
 pub(crate) enum Flaw {
     Broken { rule: Rule, object: u64 },
@@ -72,7 +72,7 @@ impl<T: Drop> From<AllocFailed<T>> for Flaw {
     }
 }
 
-/// Validates rules 1 and 2: a plain trailer and the least widths.
+// Validates rules 1 and 2: a plain trailer and the least widths.
 pub(crate) fn judge_trailer(file: &BinFile) -> Result<(), Flaw>
     ensures plain { OnOk result (HasPlainTrailer (octets_of file.now)) }
     ensures widths { OnOk result (HasLeastWidths (octets_of file.now)) }
@@ -101,9 +101,9 @@ fn has_least_widths(file: &BinFile) -> bool
     file.offset_width() == offset_width && file.reference_width() == reference_width
 }
 
-/// Validates rules 0, 3, 4, 5 and 6 for each object, except for the limits, and then the offset of
-/// the offset table. `objects` are the bytes before that table. Returns the walk, which kept pace
-/// with the objects.
+// Validates rules 0, 3, 4, 5 and 6 for each object, except for the limits, and then the offset of
+// the offset table. `objects` are the bytes before that table. Returns the walk, which kept pace
+// with the objects.
 pub(crate) fn judge_objects<'a, S: BuildHasher + Copy>(
     alloc: Global,
     hasher: S,

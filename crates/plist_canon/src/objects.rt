@@ -9,7 +9,7 @@ ghost use Rattle.plist_write.specs.RepeatFilter.{HoldsIt};
 use plist_object::{BinFile, Object};
 use plist_value::ScalarRef;
 
-/// Returns the scalar that object `n` contains, if it is a scalar.
+// Returns the scalar that object `n` contains, if it is a scalar.
 pub(crate) fn scalar_of<'a>(file: &BinFile<'a>, n: u64) -> Option<ScalarRef<'a>>
     requires { n < (trailer_of (octets_of file.now)).count }
     ensures some { IfSome result (λ s. HoldsIt (octets_of file.now) n (content_of s)) }

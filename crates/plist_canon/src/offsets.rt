@@ -9,7 +9,7 @@ use crate::judging::Flaw;
 use crate::rule::Rule;
 use plist_object::BinFile;
 
-/// Validates that each object can be decoded and begins where its predecessor ends.
+// Validates that each object can be decoded and begins where its predecessor ends.
 pub(crate) fn judge_offsets(file: &BinFile) -> Result<(), Flaw>
     ensures { IfErr result (IsFlaw (octets_of file.now)) }
 {

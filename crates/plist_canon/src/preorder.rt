@@ -36,7 +36,7 @@ struct Visit {
     reference: u64,
 }
 
-/// The walk in preorder from object 0, which visits the objects in the order of their numbers.
+// The walk in preorder from object 0, which visits the objects in the order of their numbers.
 #[derive(Drop)]
 pub(crate) struct Walk<'a> {
     // One for each object visited.
@@ -50,7 +50,7 @@ pub(crate) struct Walk<'a> {
 }
 
 impl<'a> Walk<'a> {
-    /// Creates a walk before object 0, in a file of `count` objects.
+    // Creates a walk before object 0, in a file of `count` objects.
     pub(crate) fn new(alloc: Global, count: u64) -> Result<Walk<'a>, AllocError>
         ensures { IfOk result (λ walk. (f : List ℕ) → Walked f 0 walk) }
     {
@@ -62,7 +62,7 @@ impl<'a> Walk<'a> {
         })
     }
 
-    /// Visits the next object, which contains `object`.
+    // Visits the next object, which contains `object`.
     #[inline(always)]
     pub(crate) fn meet(&mut self, object: &Object<'a>) -> Result<(), AllocError>
         ensures { OnOk result ((f : List ℕ) (i : ℕ) → Holds f i (held_of object.now)
@@ -86,9 +86,9 @@ impl<'a> Walk<'a> {
         Ok(())
     }
 
-    /// Validates rule 7 after all objects were visited: the walk visits them in the order of their
-    /// numbers, and only scalars again. Then validates rule 0 for the limits: the value of object 0
-    /// is within them.
+    // Validates rule 7 after all objects were visited: the walk visits them in the order of their
+    // numbers, and only scalars again. Then validates rule 0 for the limits: the value of object 0
+    // is within them.
     pub(crate) fn finish(self) -> Result<(), Flaw>
         ensures ok { OnOk result ((f : List ℕ) → WalkedAll f self.entry → WalksWithinLimits f) }
         ensures err { IfErr result (λ flaw. (f : List ℕ) → WalkedAll f self.entry → IsFlaw f flaw) }

@@ -13,7 +13,7 @@ use crate::rule::Rule;
 use plist_object::{BinFile, KeyOrder, Object, Refs};
 use std::alloc::Global;
 
-/// Validates rule 0 for the references of object `i`, and returns whether rule 5 holds.
+// Validates rule 0 for the references of object `i`, and returns whether rule 5 holds.
 #[inline(always)]
 pub(crate) fn judge_references<'a>(
     alloc: Global,

@@ -18,7 +18,7 @@ use std::hash::BuildHasher;
 // The largest number stored with a scalar. Only whether one is stored matters.
 const MOST: u64 = 4_294_967_295;
 
-/// Validates rule 6 for the recorded objects. Decodes only those again that may repeat another.
+// Validates rule 6 for the recorded objects. Decodes only those again that may repeat another.
 pub(crate) fn judge_repeats<S: BuildHasher + Copy>(
     alloc: Global,
     hasher: S,

@@ -10,7 +10,7 @@ use plist_write::RepeatFilterBuilder;
 use std::alloc::{AllocError, Global};
 use std::hash::BuildHasher;
 
-/// What is kept of the objects visited so far, which are the first of the file.
+// What is kept of the objects visited so far, which are the first of the file.
 #[derive(Drop)]
 pub(crate) struct Visited<'a> {
     // The end of the last object visited, or of the header.
@@ -20,7 +20,7 @@ pub(crate) struct Visited<'a> {
 }
 
 impl<'a> Visited<'a> {
-    /// Returns the state in which no object has been visited.
+    // Returns the state in which no object has been visited.
     pub(crate) fn new<S: BuildHasher>(
         alloc: Global,
         hasher: &S,
@@ -35,7 +35,7 @@ impl<'a> Visited<'a> {
         })
     }
 
-    /// Visits the next object, which was decoded as `read`.
+    // Visits the next object, which was decoded as `read`.
     #[inline(always)]
     pub(crate) fn take(&mut self, read: &Spanned<'a>) -> Result<(), AllocError>
         ensures { OnOk result ((f : List ℕ) (i : ℕ) → Holds f i (held_of read.now.object)

@@ -11,17 +11,17 @@ use plist_value::Budget;
 // telling apart.
 const MOST_KEPT: u128 = 4_294_967_295;
 
-/// What an object without its references counts against the limits.
+// What an object without its references counts against the limits.
 #[derive(Clone, Copy)]
 pub(crate) enum Weight {
-    /// An array or dictionary, which has no payload of its own.
+    // An array or dictionary, which has no payload of its own.
     Container,
-    /// A scalar and its payload in bytes, which is capped at `MOST_KEPT`.
+    // A scalar and its payload in bytes, which is capped at `MOST_KEPT`.
     Scalar(u32),
 }
 
 impl Weight {
-    /// Returns the weight of `object`. Reads no string and no data.
+    // Returns the weight of `object`. Reads no string and no data.
     pub(crate) fn of(object: &Object) -> Weight
         ensures { result ≡ weight_of (held_of object.now) }
     {
@@ -31,7 +31,7 @@ impl Weight {
         }
     }
 
-    /// Returns the budget left after one node and its payload.
+    // Returns the budget left after one node and its payload.
     pub(crate) fn spend(self, left: Budget) -> Option<Budget>
         ensures left { IfSome result (Spends left 1 (payload_of_weight self)) }
         ensures over { IfNone result (IsOver left 1 (payload_of_weight self)) }
@@ -42,7 +42,7 @@ impl Weight {
         }
     }
 
-    /// Returns whether the object is a scalar.
+    // Returns whether the object is a scalar.
     pub(crate) fn is_scalar(self) -> bool
         ensures { result ≡ is_scalar_weight self }
     {

@@ -171,7 +171,7 @@ fn equality(alloc: Global, equal: bool) -> Result<Answer, AllocError>
     }
 }
 
-/// Appends a line end.
+// Appends a line end.
 fn with_line_end(line: String, status: Status) -> Result<Answer, AllocError>
     ensures text { IfOk result (λ answer.
         string_bytes answer.text ≡ string_bytes line ++ codes "\n") }

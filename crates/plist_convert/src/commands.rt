@@ -12,7 +12,7 @@ use std::alloc::{AllocError, Global};
 
 static FORMS: [&str; 2] = ["binary1", "openstep"];
 
-/// Returns the command line of the program.
+// Returns the command line of the program.
 pub(crate) fn program<'a>(alloc: Global) -> Result<Command<'a>, AllocError>
     ensures { IfOk result (λ command. IsProgram (app_of command)) }
 {
@@ -24,7 +24,7 @@ pub(crate) fn program<'a>(alloc: Global) -> Result<Command<'a>, AllocError>
     with_subcommand(command, explain(alloc))
 }
 
-/// Adds a subcommand.
+// Adds a subcommand.
 fn with_subcommand<'a>(
     command: Command<'a>,
     subcommand: Result<Command<'a>, AllocError>,
@@ -104,14 +104,14 @@ fn explain<'a>(alloc: Global) -> Result<Command<'a>, AllocError>
     ))
 }
 
-/// Returns a command with its help.
+// Returns a command with its help.
 fn described<'a>(alloc: Global, name: &'a str, about: &'a str, after: &'a str) -> Command<'a>
     ensures { app_of result ≡ new_app name.entry.now }
 {
     Command::new(alloc, name).about(about).after_help(after)
 }
 
-/// Returns a required argument.
+// Returns a required argument.
 fn required<'a>(alloc: Global, id: &'a str, text: &'a str) -> Arg<'a>
     ensures rule { rule_of result ≡ file_word id.entry.now }
     ensures local { result.global ≡ false }
@@ -119,7 +119,7 @@ fn required<'a>(alloc: Global, id: &'a str, text: &'a str) -> Arg<'a>
     Arg::new(alloc, id).required(true).help(text)
 }
 
-/// Returns a required argument with one value or more.
+// Returns a required argument with one value or more.
 fn several<'a>(alloc: Global, id: &'a str, text: &'a str) -> Arg<'a>
     ensures rule { rule_of result ≡ file_words id.entry.now }
     ensures local { result.global ≡ false }
@@ -127,7 +127,7 @@ fn several<'a>(alloc: Global, id: &'a str, text: &'a str) -> Arg<'a>
     Arg::new(alloc, id).required(true).num_args(1..).help(text)
 }
 
-/// Returns a flag: `--` and its name.
+// Returns a flag: `--` and its name.
 fn flag<'a>(alloc: Global, name: &'a str, text: &'a str) -> Arg<'a>
     ensures rule { rule_of result ≡ flag_word name.entry.now }
     ensures local { result.global ≡ false }
@@ -138,7 +138,7 @@ fn flag<'a>(alloc: Global, name: &'a str, text: &'a str) -> Arg<'a>
         .help(text)
 }
 
-/// Returns an optional argument with any number of values.
+// Returns an optional argument with any number of values.
 fn optional<'a>(alloc: Global, id: &'a str, text: &'a str) -> Arg<'a>
     ensures rule { rule_of result ≡ any_words id.entry.now }
     ensures local { result.global ≡ false }

@@ -19,13 +19,13 @@ use std::io;
 use std::io::ErrorKind;
 use std::marker::{Brand, PhantomData};
 
-/// The path of a file that is to be created.
+// The path of a file that is to be created.
 #[derive(Drop)]
 pub(crate) struct Target<'p> {
     pub(crate) path: &'p str,
 }
 
-/// What a type knows of a file that is to be created.
+// What a type knows of a file that is to be created.
 pub(crate) trait KnownTarget {
     // Its path.
     ghost path: { FileName };
@@ -45,8 +45,8 @@ impl KnownTarget for Brand {
     ghost limit = { 0 };
 }
 
-/// The file at a path. It is created or emptied by the first put of a piece that is not empty. Once
-/// a put has failed, every put fails; `needs_memory` tells whether the first ran out of memory.
+// The file at a path. It is created or emptied by the first put of a piece that is not empty. Once
+// a put has failed, every put fails; `needs_memory` tells whether the first ran out of memory.
 #[derive(Drop)]
 pub(crate) struct CreatedFile<'o, 'p, O: Opens, K: KnownTarget> {
     alloc: Global,
@@ -70,7 +70,7 @@ pub(crate) struct CreatedFile<'o, 'p, O: Opens, K: KnownTarget> {
 }
 
 impl<'o, 'p, O: Opens, K: KnownTarget> CreatedFile<'o, 'p, O, K> {
-    /// Returns the file at the path, which is unchanged so far.
+    // Returns the file at the path, which is unchanged so far.
     pub(crate) fn new(alloc: Global, opener: &'o mut O, path: &'p str) -> CreatedFile<'o, 'p, O, K>
         requires path { path.now ≡ K.path }
         requires files { O.files opener.old ≡ K.files }
@@ -139,12 +139,12 @@ impl<O: Opens, K: KnownTarget> Sink for CreatedFile<'_, '_, O, K> {
     }
 }
 
-/// Creates or empties the file at the path and writes the start of the piece to it. Returns the
-/// file and the number of bytes written, which is above 0.
-///
-/// # Errors
-///
-/// Fails if the file cannot be created or takes nothing. It is unchanged or empty then.
+// Creates or empties the file at the path and writes the start of the piece to it. Returns the
+// file and the number of bytes written, which is above 0.
+//
+// # Errors
+//
+// Fails if the file cannot be created or takes nothing. It is unchanged or empty then.
 fn begin<'p, O: Opens>(
     opener: &mut O,
     alloc: Global,
@@ -170,11 +170,11 @@ fn begin<'p, O: Opens>(
     Ok((created, taken))
 }
 
-/// Writes the start of the piece and returns the number of bytes written, which is above 0.
-///
-/// # Errors
-///
-/// Fails if the write fails or takes nothing.
+// Writes the start of the piece and returns the number of bytes written, which is above 0.
+//
+// # Errors
+//
+// Fails if the write fails or takes nothing.
 fn write_some<O: Opens>(opener: &O, writer: &mut O::Writer, piece: &[u8]) -> io::Result<usize>
     ensures some { IfOk result (λ taken. 0 < taken) }
     ensures within { IfOk result (λ taken. taken ≤ length piece.now) }
@@ -193,7 +193,7 @@ fn write_some<O: Opens>(opener: &O, writer: &mut O::Writer, piece: &[u8]) -> io:
     }
 }
 
-/// Returns whether the error is that memory ran out.
+// Returns whether the error is that memory ran out.
 fn is_out_of_memory(error: &io::Error) -> bool
     ensures { IsTrue result ↔ (error_kind error.now ≡ ErrorKind.OutOfMemory) }
 {

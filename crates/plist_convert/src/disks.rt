@@ -70,8 +70,8 @@ pub trait Disk {
         ensures { result ≡ failures self.now };
 }
 
-/// Returns the count of failures after a file was sent with this result. If memory ran out for the
-/// file, the device has not failed.
+// Returns the count of failures after a file was sent with this result. If memory ran out for the
+// file, the device has not failed.
 pub(crate) fn failures_after(failures: u64, sent: &Result<u64, Fault>, needs_memory: bool) -> u64
     ensures { CountsFailure failures result (told needs_memory sent.now) }
 {

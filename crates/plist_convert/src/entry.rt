@@ -67,7 +67,7 @@ pub fn run_to_end<R: Files + RandomSource, I: Read, O: Write>(
     }
 }
 
-/// Runs the program with the hasher of this builder.
+// Runs the program with the hasher of this builder.
 fn run_last<H: BuildHasher + Copy, R: Files, I: Read, O: Write>(
     rt: &R,
     alloc: Global,
@@ -121,7 +121,7 @@ pub fn run_on<H: BuildHasher + Copy, D: Disk, S: Source, W: Sink>(
     perform(alloc, hasher, disk, words, input, output)
 }
 
-/// Parses the arguments and executes the command.
+// Parses the arguments and executes the command.
 fn perform<H: BuildHasher + Copy, D: Disk, S: Source, W: Sink>(
     alloc: Global,
     hasher: H,
@@ -147,7 +147,7 @@ fn perform<H: BuildHasher + Copy, D: Disk, S: Source, W: Sink>(
     }
 }
 
-/// Executes the command.
+// Executes the command.
 fn execute<H: BuildHasher + Copy, D: Disk, S: Source, W: Sink>(
     alloc: Global,
     hasher: H,

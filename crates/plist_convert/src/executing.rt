@@ -15,8 +15,8 @@ use plist_forms::{Fault, Form, Status, print};
 use std::alloc::Global;
 use std::hash::BuildHasher;
 
-/// Executes `check IN..`. Each line has its path if that is asked for, or if there are several.
-/// Only one file is in memory at a time.
+// Executes `check IN..`. Each line has its path if that is asked for, or if there are several.
+// Only one file is in memory at a time.
 pub(crate) fn check_files<H: BuildHasher + Copy, D: Disk, W: Sink>(
     alloc: Global,
     hasher: H,
@@ -45,14 +45,14 @@ pub(crate) fn check_files<H: BuildHasher + Copy, D: Disk, W: Sink>(
     status
 }
 
-/// Returns whether each line of `check` has its path.
+// Returns whether each line of `check` has its path.
 fn are_named(named: bool, paths: &[&str]) -> bool
     ensures { result ≡ are_named named (map (λ path. path.now) paths.now) }
 {
     named || paths.len() > 1
 }
 
-/// Executes `check` for one path, which its line has if it is to be named.
+// Executes `check` for one path, which its line has if it is to be named.
 fn check_file<H: BuildHasher + Copy, D: Disk, W: Sink>(
     alloc: Global,
     hasher: H,
@@ -78,7 +78,7 @@ fn check_file<H: BuildHasher + Copy, D: Disk, W: Sink>(
     }
 }
 
-/// Executes `lint IN..`. Only one file is in memory at a time.
+// Executes `lint IN..`. Only one file is in memory at a time.
 pub(crate) fn lint_files<D: Disk, W: Sink>(
     alloc: Global,
     disk: &mut D,
@@ -104,7 +104,7 @@ pub(crate) fn lint_files<D: Disk, W: Sink>(
     status
 }
 
-/// Executes `lint` for one path.
+// Executes `lint` for one path.
 fn lint_file<D: Disk, W: Sink>(alloc: Global, disk: &mut D, path: &str, output: &mut W) -> u8
     ensures run { IsLinted path.now
         (state (D.files disk.old) (D.failures disk.old)
@@ -120,8 +120,8 @@ fn lint_file<D: Disk, W: Sink>(alloc: Global, disk: &mut D, path: &str, output: 
     }
 }
 
-/// Executes `same A B`. Loads both files before it reads them. Identical files are in memory only
-/// once.
+// Executes `same A B`. Loads both files before it reads them. Identical files are in memory only
+// once.
 pub(crate) fn compare_files<H: BuildHasher + Copy, D: Disk, W: Sink>(
     alloc: Global,
     hasher: H,
@@ -155,8 +155,8 @@ pub(crate) fn compare_files<H: BuildHasher + Copy, D: Disk, W: Sink>(
     }
 }
 
-/// Executes `convert FORM IN OUT`. OUT is created or emptied when its first byte is written, so it
-/// is unchanged if IN is refused.
+// Executes `convert FORM IN OUT`. OUT is created or emptied when its first byte is written, so it
+// is unchanged if IN is refused.
 pub(crate) fn convert_file<D: Disk, W: Sink>(
     alloc: Global,
     disk: &mut D,
@@ -183,7 +183,7 @@ pub(crate) fn convert_file<D: Disk, W: Sink>(
     }
 }
 
-/// Executes `print IN`. Prints object by object, and only if IN is accepted.
+// Executes `print IN`. Prints object by object, and only if IN is accepted.
 pub(crate) fn print_file<D: Disk, W: Sink>(
     alloc: Global,
     disk: &mut D,
@@ -208,7 +208,7 @@ pub(crate) fn print_file<D: Disk, W: Sink>(
     }
 }
 
-/// Executes `explain WHAT`.
+// Executes `explain WHAT`.
 pub(crate) fn explain_what<W: Sink>(alloc: Global, what: Option<&str>, output: &mut W) -> u8
     ensures run { (disk : ℕ) (files : Option Files) → IsExplainRun
         (option_map (λ word. word.now) what.entry)
@@ -219,7 +219,7 @@ pub(crate) fn explain_what<W: Sink>(alloc: Global, what: Option<&str>, output: &
     give(output, explain_answer(alloc, what))
 }
 
-/// Returns the path that the line of a refusal names.
+// Returns the path that the line of a refusal names.
 fn path_of<'a>(fault: &Fault, from: &'a str, to: &'a str) -> &'a str
     ensures { result.now ≡ path_of_fault from.now to.now fault.now }
 {

@@ -122,12 +122,12 @@ impl<O: Steady, H: BuildHasher + Copy> Disk for FileDisk<O, H> {
     }
 }
 
-/// Returns all bytes of the file at the path, or `None` if they are the known ones.
-///
-/// # Errors
-///
-/// [`Fault::OutOfMemory`] (60) if out of memory; [`Fault::ReadFailed`] (50) if the file cannot be
-/// opened or a read fails. Otherwise fails like [`load_unless`].
+// Returns all bytes of the file at the path, or `None` if they are the known ones.
+//
+// # Errors
+//
+// [`Fault::OutOfMemory`] (60) if out of memory; [`Fault::ReadFailed`] (50) if the file cannot be
+// opened or a read fails. Otherwise fails like [`load_unless`].
 fn octets_at<O: Opens>(
     opener: &O,
     alloc: Global,
@@ -150,7 +150,7 @@ fn octets_at<O: Opens>(
     }
 }
 
-/// Returns the refusal of a file that cannot be opened.
+// Returns the refusal of a file that cannot be opened.
 fn unopened(error: &io::Error) -> Fault
     ensures { IsUnopenedAs error.now result }
 {
@@ -160,7 +160,7 @@ fn unopened(error: &io::Error) -> Fault
     }
 }
 
-/// Returns the count of failures after a load.
+// Returns the count of failures after a load.
 fn failures_after_load(failures: u64, found: &Result<Option<Vec<u8>>, Fault>) -> u64
     ensures { CountsUnread failures result found.now }
 {
@@ -170,9 +170,9 @@ fn failures_after_load(failures: u64, found: &Result<Option<Vec<u8>>, Fault>) ->
     }
 }
 
-/// Converts the bytes to this form and writes the output to the file of the target, which is
-/// created at the first write. Returns the file if it was created, the result of
-/// [`convert_octets`], and whether memory ran out for the file.
+// Converts the bytes to this form and writes the output to the file of the target, which is
+// created at the first write. Returns the file if it was created, the result of
+// [`convert_octets`], and whether memory ran out for the file.
 fn write_target<'p, O: Opens, H: BuildHasher + Copy, K: KnownTarget>(
     opener: &mut O,
     alloc: Global,
@@ -208,7 +208,7 @@ fn write_target<'p, O: Opens, H: BuildHasher + Copy, K: KnownTarget>(
     (created, sent, needs_memory)
 }
 
-/// Closes the file, if it was created. If out of memory for that, no file changes.
+// Closes the file, if it was created. If out of memory for that, no file changes.
 fn settle<O: Opens>(
     opener: &mut O,
     alloc: Global,
@@ -225,7 +225,7 @@ fn settle<O: Opens>(
     }
 }
 
-/// Returns the result of a store: if memory ran out for the file, the device has not failed.
+// Returns the result of a store: if memory ran out for the file, the device has not failed.
 fn tell(sent: Result<u64, Fault>, needs_memory: bool) -> Result<u64, Fault>
     ensures { result ≡ told needs_memory sent }
 {

@@ -10,11 +10,11 @@ use plist_forms::{Form, Status, convert_with_hasher};
 use std::alloc::Global;
 use std::hash::BuildHasher;
 
-/// The path of standard input and standard output in printed lines.
+// The path of standard input and standard output in printed lines.
 pub(crate) const STANDARD: &str = "-";
 
-/// Writes the canonical file of the input to the output, object by object. Reads all of the input
-/// before it writes the first byte. Scalars are hashed with the hasher of this builder.
+// Writes the canonical file of the input to the output, object by object. Reads all of the input
+// before it writes the first byte. Scalars are hashed with the hasher of this builder.
 pub(crate) fn filter<H: BuildHasher + Copy, S: Source, W: Sink>(
     alloc: Global,
     hasher: H,

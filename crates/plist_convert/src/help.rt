@@ -3,7 +3,7 @@
 
 pub(crate) const ABOUT: &str = "Converts Apple property lists to their canonical form";
 
-/// The program without a command, its messages and its exit statuses.
+// The program without a command, its messages and its exit statuses.
 pub(crate) const AFTER: &str = "\
 Reads binary property lists (bplist00) and OpenStep texts. Make XML binary with:
   plistconv-canonicalise --from-xml - < IN > OUT

@@ -13,7 +13,7 @@ use plist_devices::{Sink, put_all};
 use plist_forms::{Fault, Status};
 use std::alloc::{AllocError, Global};
 
-/// Prints the text and returns the status, or 4 if the text cannot be printed.
+// Prints the text and returns the status, or 4 if the text cannot be printed.
 pub(crate) fn print<W: Sink>(output: &mut W, text: &str, status: Status) -> u8
     ensures ends { Prints (W.taken output.old) (W.taken output.new)
         (W.failures output.old) (W.failures output.new)
@@ -26,7 +26,7 @@ pub(crate) fn print<W: Sink>(output: &mut W, text: &str, status: Status) -> u8
     }
 }
 
-/// Prints a result and returns its exit status.
+// Prints a result and returns its exit status.
 pub(crate) fn give<W: Sink>(output: &mut W, answer: Result<Answer, AllocError>) -> u8
     ensures ends { MatchResult answer
         (λ answer. Prints (W.taken output.old) (W.taken output.new)
@@ -41,7 +41,7 @@ pub(crate) fn give<W: Sink>(output: &mut W, answer: Result<Answer, AllocError>) 
     }
 }
 
-/// Prints the line of a refusal and returns its exit status.
+// Prints the line of a refusal and returns its exit status.
 pub(crate) fn report<W: Sink>(alloc: Global, path: &str, fault: &Fault, output: &mut W) -> u8
     ensures ends { Ends (W.taken output.old) (W.taken output.new)
         (W.failures output.old) (W.failures output.new) (refusal path.now fault.now) result }
@@ -53,7 +53,7 @@ pub(crate) fn report<W: Sink>(alloc: Global, path: &str, fault: &Fault, output: 
     }
 }
 
-/// Prints the message of `clap` and returns the exit status.
+// Prints the message of `clap` and returns the exit status.
 pub(crate) fn explain<W: Sink>(alloc: Global, error: &Error, output: &mut W) -> u8
     ensures ends { Explains (kind_of error.now) (W.taken output.old) (W.taken output.new)
         (W.failures output.old) (W.failures output.new) result }
@@ -63,7 +63,7 @@ pub(crate) fn explain<W: Sink>(alloc: Global, error: &Error, output: &mut W) -> 
     tell(format!(in alloc; "{error}"), status, output)
 }
 
-/// Prints the message, or the line for out of memory if there is none.
+// Prints the message, or the line for out of memory if there is none.
 fn tell<W: Sink>(message: Result<String, AllocError>, status: Status, output: &mut W) -> u8
     ensures told { IfOk message (λ text. IsExplanation (status_code status) (string_bytes text)
         → Prints (W.taken output.old) (W.taken output.new)
@@ -83,8 +83,8 @@ fn tell<W: Sink>(message: Result<String, AllocError>, status: Status, output: &m
     }
 }
 
-/// Returns whether the text can be a message of `clap` with this status. A usage error begins with
-/// `error: `. There is no message if out of memory.
+// Returns whether the text can be a message of `clap` with this status. A usage error begins with
+// `error: `. There is no message if out of memory.
 fn explains(text: &str, status: Status) -> bool
     ensures { IsTrue result ↔ IsExplanation (status_code status) text.now }
 {
@@ -113,8 +113,8 @@ fn report_no_memory<W: Sink>(output: &mut W) -> u8
     print(output, "refused 60 OutOfMemory\n", Status::NoMemory)
 }
 
-/// Returns whether printing failed between these two counts of failures. Once a count is `u64::MAX`
-/// everything that is printed fails.
+// Returns whether printing failed between these two counts of failures. Once a count is `u64::MAX`
+// everything that is printed fails.
 pub(crate) fn have_failed(before: u64, after: u64) -> bool
     ensures failed { IsTrue result → HaveFailed before after }
     ensures printed { result ≡ false → HaveFailed before after → ⊥ }

@@ -6,8 +6,8 @@ use std::random::RandomSource;
 use std::rt::Files;
 use std::{fs, io};
 
-/// Returns a hash builder with random keys from the system, or from `/dev/urandom` if the system
-/// gives none, as in some sandboxes.
+// Returns a hash builder with random keys from the system, or from `/dev/urandom` if the system
+// gives none, as in some sandboxes.
 pub(crate) fn random_state<R: Files + RandomSource>(rt: &R) -> io::Result<RandomState> {
     match RandomState::new(rt) {
         Ok(hasher) => Ok(hasher),
@@ -15,7 +15,7 @@ pub(crate) fn random_state<R: Files + RandomSource>(rt: &R) -> io::Result<Random
     }
 }
 
-/// The device `/dev/urandom` among these files.
+// The device `/dev/urandom` among these files.
 #[derive(Drop)]
 struct RandomDevice<'a, R> {
     rt: &'a R,

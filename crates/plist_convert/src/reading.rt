@@ -36,7 +36,7 @@ pub fn read_words<'a>(alloc: Global, words: &'a [&'a str]) -> Result<Request<'a>
     read_by(alloc, &mut command, words)
 }
 
-/// Returns the request of arguments that are not parsed.
+// Returns the request of arguments that are not parsed.
 fn unparsed_request<'a>(words: &[&'a str]) -> Option<Request<'a>>
     ensures { option_map asked_by result ≡ asked_unparsed (map (λ word. word.now) words.now) }
 {
@@ -59,7 +59,7 @@ fn line_request<'a>(command: &str, line: &'a str) -> Option<Request<'a>>
     }
 }
 
-/// Returns whether the word begins with a dash but is no option, since it has a blank.
+// Returns whether the word begins with a dash but is no option, since it has a blank.
 fn is_dash_line(word: &str) -> bool
     ensures { result ≡ is_dash_line word.now }
 {
@@ -67,7 +67,7 @@ fn is_dash_line(word: &str) -> bool
     octets.starts_with(b"-") && octets.contains(&b' ')
 }
 
-/// Parses the arguments with the program's command line.
+// Parses the arguments with the program's command line.
 fn read_by<'a>(
     alloc: Global,
     command: &mut Command<'a>,
@@ -160,7 +160,7 @@ fn form_named(name: &str) -> Option<Form>
     }
 }
 
-/// Returns the value of this argument.
+// Returns the value of this argument.
 fn value<'a>(given: &ArgMatches<'a>, id: &str) -> Option<&'a str>
     ensures { option_map (λ text. text.now) result
         ≡ first_of id.now (rows_of (found_of given.now)) }
@@ -168,7 +168,7 @@ fn value<'a>(given: &ArgMatches<'a>, id: &str) -> Option<&'a str>
     given.get_str(id)
 }
 
-/// Returns whether the flag is given.
+// Returns whether the flag is given.
 fn is_set(given: &ArgMatches, name: &str) -> bool
     ensures { result ≡ is_set name.now (rows_of (found_of given.now)) }
 {
@@ -178,7 +178,7 @@ fn is_set(given: &ArgMatches, name: &str) -> bool
     }
 }
 
-/// Returns all values of this argument, in the order given.
+// Returns all values of this argument, in the order given.
 fn values<'a>(
     alloc: Global,
     given: &ArgMatches<'a>,

@@ -8,8 +8,8 @@ use plist_canon::Verdict;
 use plist_forms::Status;
 use std::alloc::{AllocError, Global};
 
-/// Returns the line of a verdict, without a line end, such as `canonical` or `broken C7 at object
-/// 0`.
+// Returns the line of a verdict, without a line end, such as `canonical` or `broken C7 at object
+// 0`.
 fn verdict_line(alloc: Global, verdict: Verdict) -> Result<String, AllocError>
     ensures { IfOk result (λ text. string_bytes text ≡ verdict_text verdict) }
 {
@@ -21,7 +21,7 @@ fn verdict_line(alloc: Global, verdict: Verdict) -> Result<String, AllocError>
     }
 }
 
-/// Returns the line of a verdict, after the path and `: ` if the file is to be named.
+// Returns the line of a verdict, after the path and `: ` if the file is to be named.
 pub(crate) fn verdict_line_of(
     alloc: Global,
     named: bool,
@@ -39,7 +39,7 @@ pub(crate) fn verdict_line_of(
     }
 }
 
-/// Returns the exit status: 0 for a canonical file, 1 for any other.
+// Returns the exit status: 0 for a canonical file, 1 for any other.
 pub(crate) fn verdict_status(verdict: Verdict) -> Status
     ensures { status_code result ≡ verdict_status_for verdict }
 {

@@ -55,7 +55,7 @@ impl<D: ReadDevice> Source for ReaderSource<D> {
     }
 }
 
-/// Reads from the device once and counts a failure.
+// Reads from the device once and counts a failure.
 pub(crate) fn take_from<D: ReadDevice>(
     device: &mut D,
     failures: &mut u64,

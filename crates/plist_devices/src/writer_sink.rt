@@ -55,7 +55,7 @@ impl<D: WriteDevice> Sink for WriterSink<D> {
     }
 }
 
-/// Writes to the device once and counts a failure.
+// Writes to the device once and counts a failure.
 pub(crate) fn put_on<D: WriteDevice>(
     device: &mut D,
     failures: &mut u64,

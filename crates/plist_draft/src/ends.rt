@@ -6,7 +6,7 @@ ghost use Rattle.plist_object.specs.Spelling.{references};
 use plist_object::put_number;
 use std::alloc::AllocError;
 
-/// Appends the offsets of the objects to `out`, in four bytes each.
+// Appends the offsets of the objects to `out`, in four bytes each.
 pub(crate) fn put_offsets(out: &mut Vec<u8>, offsets: &[u32]) -> Result<(), AllocError>
     ensures put { OnOk result (out.new.items ≡ out.old.items ++ references 4 offsets.now) }
     ensures fit { AllUnder 4294967296 offsets.now }
@@ -17,8 +17,8 @@ pub(crate) fn put_offsets(out: &mut Vec<u8>, offsets: &[u32]) -> Result<(), Allo
     Ok(())
 }
 
-/// Does nothing at run time. It tells the proofs that bytes are below 256, which their type
-/// implies.
+// Does nothing at run time. It tells the proofs that bytes are below 256, which their type
+// implies.
 pub(crate) fn are_octets(octets: &[u8])
     ensures { AreOctets octets.now }
 {}

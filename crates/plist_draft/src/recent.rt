@@ -26,22 +26,22 @@ struct Entry {
     hash: u32,
 }
 
-/// A table of the scalar appended last in each slot; the hash determines the slot. A scalar
-/// appended long ago may not be found, but no input makes a lookup slow.
+// A table of the scalar appended last in each slot; the hash determines the slot. A scalar
+// appended long ago may not be found, but no input makes a lookup slow.
 #[derive(Drop)]
 pub(crate) struct Recent {
     slots: Vec<Entry>,
 }
 
 impl Recent {
-    /// Creates an empty table, without slots.
+    // Creates an empty table, without slots.
     pub(crate) fn new(alloc: Global) -> Recent {
         Recent {
             slots: Vec::new(alloc),
         }
     }
 
-    /// Clears and enlarges the table if there are at least as many objects as slots, up to `MOST`.
+    // Clears and enlarges the table if there are at least as many objects as slots, up to `MOST`.
     pub(crate) fn prepare(&mut self, objects: usize) -> Result<(), AllocError> {
         let slots = self.slots.len();
         if objects < slots || slots >= MOST {
@@ -55,8 +55,8 @@ impl Recent {
         hash as usize & self.slots.len().wrapping_sub(1)
     }
 
-    /// Returns the number of an object that begins with this encoding, or `None` if the table has
-    /// none.
+    // Returns the number of an object that begins with this encoding, or `None` if the table has
+    // none.
     pub(crate) fn find(
         &self,
         hash: u32,
@@ -75,7 +75,7 @@ impl Recent {
         }
     }
 
-    /// Replaces the entry in the slot of this hash.
+    // Replaces the entry in the slot of this hash.
     pub(crate) fn keep(&mut self, hash: u32, number: u32) {
         let slot = self.slot_of(hash);
         if slot < self.slots.len() {
@@ -84,7 +84,7 @@ impl Recent {
     }
 }
 
-/// Returns the hash of a scalar from its encoding.
+// Returns the hash of a scalar from its encoding.
 pub(crate) fn hash_of(octets: &[u8]) -> u32 {
     let mut hasher = FixedHasher::new().build_hasher();
     hasher.write(octets);

@@ -60,7 +60,7 @@ fn find(word: &str) -> Option<&'static Topic>
     find_in(refusals(), word).or(find_in(rules(), word))
 }
 
-/// Returns the first of the topics that the word names.
+// Returns the first of the topics that the word names.
 fn find_in<'a>(topics: &'a [Topic], word: &str) -> Option<&'a Topic>
     ensures { option_map (λ topic. entry_of topic.now) result
         ≡ find (λ entry. is_named entry.subject word.now) (map entry_of topics.now) }
@@ -68,7 +68,7 @@ fn find_in<'a>(topics: &'a [Topic], word: &str) -> Option<&'a Topic>
     topics.iter().find(|topic| topic.0.is_named(word))
 }
 
-/// Appends a line for each of the topics.
+// Appends a line for each of the topics.
 fn push_lines(text: &mut String, alloc: Global, topics: &[Topic]) -> Result<(), AllocError>
     ensures { OnOk result (string_bytes text.new
         ≡ string_bytes text.old ++ flat_map line_of (map entry_of topics.now)) }
@@ -80,7 +80,7 @@ fn push_lines(text: &mut String, alloc: Global, topics: &[Topic]) -> Result<(), 
     Ok(())
 }
 
-/// Returns the topic's line, an empty line, and its text.
+// Returns the topic's line, an empty line, and its text.
 fn explain(alloc: Global, topic: &Topic) -> Result<String, AllocError>
     ensures { IfOk result (λ text. string_bytes text ≡ explained (entry_of topic.now)) }
 {
@@ -88,7 +88,7 @@ fn explain(alloc: Global, topic: &Topic) -> Result<String, AllocError>
     format!(in alloc; "{subject}: {meaning}\n\n{text}\n")
 }
 
-/// Returns the topic in one line.
+// Returns the topic in one line.
 fn line(alloc: Global, topic: &Topic) -> Result<String, AllocError>
     ensures { IfOk result (λ text. string_bytes text ≡ line_of (entry_of topic.now)) }
 {

@@ -2,9 +2,9 @@
 ghost use Rattle.std.specs.Prelude.{◌≡◌};
 ghost use Rattle.plist_explain.specs.Topics.{is_mark, word_in};
 
-/// Returns the word that names the topic: the first word of the text, or the word after the last
-/// `refused` or `broken` if the text is a printed line, such as `broken C5 at object 0`. White
-/// space around the words is skipped.
+// Returns the word that names the topic: the first word of the text, or the word after the last
+// `refused` or `broken` if the text is a printed line, such as `broken C5 at object 0`. White
+// space around the words is skipped.
 pub(crate) fn word_in(text: &str) -> &str
     ensures { result.now ≡ word_in text.now }
 {
@@ -19,7 +19,7 @@ pub(crate) fn word_in(text: &str) -> &str
     named
 }
 
-/// Returns whether the next word says what was found.
+// Returns whether the next word says what was found.
 fn is_mark(word: &str) -> bool
     ensures { result ≡ is_mark word.now }
 {

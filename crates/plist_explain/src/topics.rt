@@ -48,14 +48,14 @@ impl fmt::Display for Subject {
     }
 }
 
-/// Returns whether the word is the name, in any case.
+// Returns whether the word is the name, in any case.
 fn is_name(word: &str, name: &str) -> bool
     ensures { result ≡ str_eq_ignore_ascii_case word.now name.now }
 {
     word.eq_ignore_ascii_case(name)
 }
 
-/// Returns whether the bytes are the decimal digits of the number.
+// Returns whether the bytes are the decimal digits of the number.
 fn is_number(digits: &[u8], number: u8) -> bool
     ensures { result ≡ bytes_eq digits.now (decimal number) }
 {

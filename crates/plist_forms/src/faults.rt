@@ -79,7 +79,7 @@ impl Fault {
     }
 }
 
-/// Prints the number, the name and the place of the refusal: `14 DuplicateKey at object 0`.
+// Prints the number, the name and the place of the refusal: `14 DuplicateKey at object 0`.
 impl fmt::Display for Fault {
     ghost use Rattle.std.specs.Prelude.{Some};
 

@@ -14,18 +14,18 @@ use plist_object::{BinFile, JudgedFile};
 use std::alloc::Global;
 use std::convert::AsSlice;
 
-/// A binary file that encodes the value of an input, if it encodes any. `I` owns or borrows the
-/// input.
+// A binary file that encodes the value of an input, if it encodes any. `I` owns or borrows the
+// input.
 #[derive(Drop)]
 pub(crate) enum Binary<I> {
-    /// The input, which begins with `bplist`.
+    // The input, which begins with `bplist`.
     Input(I),
-    /// The draft of a text, which encodes its value.
+    // The draft of a text, which encodes its value.
     Draft(Vec<u8>),
 }
 
 impl<I: AsSlice<u8> + Drop> Binary<I> {
-    /// Returns the binary file of an input. A text is read into a draft, and dropped.
+    // Returns the binary file of an input. A text is read into a draft, and dropped.
     pub(crate) fn of(alloc: Global, input: I) -> Result<Binary<I>, Fault>
         ensures read { IfOk result (IsReadFrom I.items (I.items input)) }
         ensures refused { IfErr result (IsRefused (I.items input)) }
@@ -36,7 +36,7 @@ impl<I: AsSlice<u8> + Drop> Binary<I> {
         Ok(Binary::Draft(draft_text(alloc, input.as_slice())?))
     }
 
-    /// Returns the bytes of the file.
+    // Returns the bytes of the file.
     pub(crate) fn octets(&self) -> &[u8]
         ensures { result.now ≡ octets_in I.items self.now }
     {
@@ -46,7 +46,7 @@ impl<I: AsSlice<u8> + Drop> Binary<I> {
         }
     }
 
-    /// Validates an input. A draft is valid, and its value has a text.
+    // Validates an input. A draft is valid, and its value has a text.
     pub(crate) fn judged(&self, alloc: Global) -> Result<JudgedFile<'_>, Fault>
         requires { (input : List ℕ) × IsReadFrom I.items input self.now }
         ensures encodes { (input : List ℕ) → IsReadFrom I.items input self.entry.now

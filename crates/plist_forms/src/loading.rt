@@ -11,7 +11,7 @@ use std::alloc::Global;
 /// The maximum number of bytes of one input: 2^32 - 1.
 pub const MAX_INPUT: u64 = 4_294_967_295;
 
-/// The number of bytes that one take asks for.
+// The number of bytes that one take asks for.
 const TAKE_SIZE: usize = 4096;
 
 /// Takes bytes until the source has no more and returns all of them.

@@ -39,7 +39,7 @@ pub fn write_openstep<W: Sink>(alloc: Global, octets: &[u8], to: &mut W) -> Resu
     write_text(alloc, &binary, to)
 }
 
-/// Sends the OpenStep text of the value that the binary file of an input encodes.
+// Sends the OpenStep text of the value that the binary file of an input encodes.
 pub(crate) fn write_text<I: AsSlice<u8> + Drop, W: Sink>(
     alloc: Global,
     binary: &Binary<I>,

@@ -26,8 +26,8 @@ impl PairFault {
     }
 }
 
-/// Prints which input is refused, and the number, the name and the place of its refusal: `the
-/// second: 14 DuplicateKey at object 0`.
+// Prints which input is refused, and the number, the name and the place of its refusal: `the
+// second: 14 DuplicateKey at object 0`.
 impl fmt::Display for PairFault {
     ghost use Rattle.std.specs.Prelude.{Some};
 

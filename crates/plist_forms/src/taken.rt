@@ -5,17 +5,17 @@ ghost use Rattle.plist_forms.specs.Load.{ComparesWith, octets_or, octets_taken};
 
 use std::alloc::{AllocError, Global};
 
-/// The bytes taken so far.
+// The bytes taken so far.
 #[derive(Drop)]
 pub(crate) enum Taken {
-    /// The number of bytes, which are a prefix of the known ones.
+    // The number of bytes, which are a prefix of the known ones.
     Known(usize),
-    /// Bytes that are not a prefix of the known ones.
+    // Bytes that are not a prefix of the known ones.
     Other(Vec<u8>),
 }
 
 impl Taken {
-    /// Returns the number of bytes taken.
+    // Returns the number of bytes taken.
     pub(crate) fn len(&self) -> usize
         ensures { (known : List ℕ) → ComparesWith known self.now
             → result ≡ length (octets_taken known self.now) }
@@ -26,7 +26,7 @@ impl Taken {
         }
     }
 
-    /// Appends a piece.
+    // Appends a piece.
     pub(crate) fn then(self, alloc: Global, known: &[u8], piece: &[u8]) -> Result<Taken, AllocError>
         requires { ComparesWith known.now self }
         ensures octets { IfOk result (λ taken. octets_taken known.now taken
@@ -42,7 +42,7 @@ impl Taken {
         }
     }
 
-    /// Returns all bytes taken, or `None` if they are the known ones.
+    // Returns all bytes taken, or `None` if they are the known ones.
     pub(crate) fn unless_known(
         self,
         alloc: Global,

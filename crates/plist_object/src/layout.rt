@@ -48,7 +48,7 @@ impl LayoutFault {
     }
 }
 
-/// Prints the number and the name of the error, as in `1 TooShort`.
+// Prints the number and the name of the error, as in `1 TooShort`.
 impl fmt::Display for LayoutFault {
     ghost use Rattle.std.specs.Prelude.{Some};
     ghost use Rattle.plist_object.specs.Codes.{layout_text};

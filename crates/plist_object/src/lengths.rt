@@ -108,7 +108,7 @@ fn whole_length(number: i128) -> u64
     }
 }
 
-/// Returns the number of bytes of a marker together with its count.
+// Returns the number of bytes of a marker together with its count.
 pub(crate) fn head_length(count: u64) -> u64
     ensures size { result ≡ head_size count }
     ensures small { result < 11 }

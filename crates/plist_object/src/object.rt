@@ -67,7 +67,7 @@ impl ObjectFault {
     }
 }
 
-/// Prints the number and the name of the error, as in `11 NotAscii`.
+// Prints the number and the name of the error, as in `11 NotAscii`.
 impl fmt::Display for ObjectFault {
     ghost use Rattle.std.specs.Prelude.{Some};
     ghost use Rattle.plist_object.specs.Codes.{object_text};

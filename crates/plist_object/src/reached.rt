@@ -20,8 +20,8 @@ pub(crate) struct Reached {
     left: Option<u64>,
 }
 
-/// Returns the strings that are keys of dictionaries the top object reaches. Stops early if more
-/// units or references are read than the file has bytes, which takes objects that overlap.
+// Returns the strings that are keys of dictionaries the top object reaches. Stops early if more
+// units or references are read than the file has bytes, which takes objects that overlap.
 pub(crate) fn reached_keys<'a>(alloc: Global, file: &BinFile<'a>) -> Result<Keys<'a>, AllocError>
     ensures { IfOk result (λ keys. AreKeys (octets_of file.now) keys) }
 {

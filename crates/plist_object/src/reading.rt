@@ -295,7 +295,7 @@ fn wide(octets: &[u8], low: u8) -> Read<'_, Object<'_>>
     Ok((Object::Scalar(ScalarRef::Text(text)), rest))
 }
 
-/// Returns the string of the object at the start of the bytes, if it is an ASCII string.
+// Returns the string of the object at the start of the bytes, if it is an ASCII string.
 #[inline(always)]
 #[tactic(auto, unfolding(crate::specs::Objects::marked_object))]
 pub(crate) fn ascii_text(octets: &[u8]) -> Option<TextRef<'_>>
@@ -313,9 +313,9 @@ pub(crate) fn ascii_text(octets: &[u8]) -> Option<TextRef<'_>>
     }
 }
 
-/// Returns the number of bytes of the object at the start, if it is marked as an ASCII string and
-/// not cut, and else 0. Other objects that are no strings are refused without reading what they
-/// contain.
+// Returns the number of bytes of the object at the start, if it is marked as an ASCII string and
+// not cut, and else 0. Other objects that are no strings are refused without reading what they
+// contain.
 pub(crate) fn ascii_length(octets: &[u8]) -> u64 {
     match octets.split_first() {
         Some((marker, octets)) if marker / 16 == ASCII => length_in(octets, marker % 16),
@@ -330,8 +330,8 @@ fn length_in(octets: &[u8], low: u8) -> u64 {
     }
 }
 
-/// Decodes the object at the start of the bytes, with references of `width` bytes each. Returns its
-/// content, and the bytes after the object.
+// Decodes the object at the start of the bytes, with references of `width` bytes each. Returns its
+// content, and the bytes after the object.
 #[tactic(auto, unfolding(crate::specs::Objects::marked_object))]
 pub(crate) fn object(octets: &[u8], width: u8) -> Read<'_, Object<'_>>
     requires width_least { 1 ≤ width }
@@ -359,8 +359,8 @@ pub(crate) fn object(octets: &[u8], width: u8) -> Read<'_, Object<'_>>
     }
 }
 
-/// Decodes like `object`, but returns only the content. Each kind returns directly, which is faster
-/// than discarding the remaining bytes afterwards.
+// Decodes like `object`, but returns only the content. Each kind returns directly, which is faster
+// than discarding the remaining bytes afterwards.
 #[tactic(auto, unfolding(crate::specs::Objects::marked_object))]
 pub(crate) fn held(octets: &[u8], width: u8) -> Result<Object<'_>, ObjectFault>
     requires width_least { 1 ≤ width }

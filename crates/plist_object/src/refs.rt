@@ -20,7 +20,7 @@ impl<'a> Refs<'a> {
     ghost use Rattle.plist_object.specs.Objects.{numbers};
     ghost use Rattle.plist_object.specs.Views.{numbers_of};
 
-    /// Wraps `count` numbers of `width` bytes each.
+    // Wraps `count` numbers of `width` bytes each.
     pub(crate) fn of(octets: &'a [u8], width: u8, count: u64) -> Refs<'a>
         requires width_least { 1 ≤ width }
         requires width_most { width ≤ 8 }
@@ -75,7 +75,7 @@ impl<'a> Refs<'a> {
     }
 }
 
-/// Returns number `i` of the numbers of `width` bytes each.
+// Returns number `i` of the numbers of `width` bytes each.
 #[inline(always)]
 pub(crate) fn number_at(octets: &[u8], width: usize, i: usize) -> u64
     requires width_least { 1 ≤ width }
@@ -86,7 +86,7 @@ pub(crate) fn number_at(octets: &[u8], width: usize, i: usize) -> u64
     number_in(&octets[i * width..], width)
 }
 
-/// Returns the number in the first `width` bytes.
+// Returns the number in the first `width` bytes.
 #[inline(always)]
 pub(crate) fn number_in(octets: &[u8], width: usize) -> u64
     requires width_least { 1 ≤ width }

@@ -19,7 +19,7 @@ pub(crate) fn push_octets(out: &mut Vec<u8>, octets: &[u8])
     out.extend_from_slice(octets).unwrap();
 }
 
-/// Appends the number in `width` bytes, big-endian.
+// Appends the number in `width` bytes, big-endian.
 pub(crate) fn push_number(out: &mut Vec<u8>, n: u64, width: u8)
     requires width_least { 1 ≤ width }
     requires width_most { width ≤ 8 }

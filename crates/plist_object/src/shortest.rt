@@ -139,13 +139,13 @@ fn begins(octets: &[u8], first: &[u8]) -> bool
     octets.starts_with(first)
 }
 
-/// Returns the number of bytes of the scalar at the start of `octets` if its first bytes show that
-/// it has its canonical encoding.
-///
-/// Booleans, reals and dates have only one encoding. The other scalars that can be recognised are
-/// integers of at most 8 bytes, ASCII strings and data below 256 bytes, and UTF-16 strings below
-/// 256 units that are not all ASCII. Of a UTF-16 string the units are read up to the first that is
-/// not ASCII.
+// Returns the number of bytes of the scalar at the start of `octets` if its first bytes show that
+// it has its canonical encoding.
+//
+// Booleans, reals and dates have only one encoding. The other scalars that can be recognised are
+// integers of at most 8 bytes, ASCII strings and data below 256 bytes, and UTF-16 strings below
+// 256 units that are not all ASCII. Of a UTF-16 string the units are read up to the first that is
+// not ASCII.
 pub(crate) fn spelled_size(octets: &[u8]) -> Option<usize>
     ensures { IfSome result (λ size. (width : ℕ) → IsOk (object_in width octets.now)
         → LeadsScalar width size octets.now) }

@@ -5,18 +5,18 @@ ghost use Rattle.plist_object.specs.KeyOrder.{IsSortedIn};
 use crate::refs::Refs;
 use std::alloc::Global;
 
-/// The keys of a dictionary and their order.
+// The keys of a dictionary and their order.
 #[derive(Drop)]
 pub(crate) struct SortedKeys<'a> {
     pub(crate) keys: Refs<'a>,
-    /// Their positions, counted from 0, in ascending order of their strings.
+    // Their positions, counted from 0, in ascending order of their strings.
     pub(crate) indices: Vec<u32>,
-    /// Whether no two of them are equal.
+    // Whether no two of them are equal.
     pub(crate) distinct: bool,
 }
 
 impl<'a> SortedKeys<'a> {
-    /// Returns no keys.
+    // Returns no keys.
     pub(crate) fn none(alloc: Global) -> SortedKeys<'a>
         ensures { (f : List ℕ) → IsSortedIn f result }
     {

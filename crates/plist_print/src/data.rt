@@ -15,7 +15,7 @@ use std::alloc::AllocError;
 // The number of bytes of data on a full line.
 const LINE: usize = 32;
 
-/// Writes data up to the end of its last line. `level` is the level of the line that it begins on.
+// Writes data up to the end of its last line. `level` is the level of the line that it begins on.
 pub(crate) fn print_data<W: Sink>(
     octets: &[u8],
     level: u64,

@@ -23,7 +23,7 @@ const UNTIL_2001: u64 = 63_113_904_000;
 // The number of seconds from 0001-01-01T00:00:00Z to 10000-01-01T00:00:00Z.
 const UNTIL_10000: u64 = 315_537_897_600;
 
-/// Appends the seconds of a date, and date and time in parentheses if it has them.
+// Appends the seconds of a date, and date and time in parentheses if it has them.
 pub(crate) fn put_date(out: &mut Vec<u8>, octets: &[u8; 8]) -> Result<(), AllocError>
     ensures { OnOk result (out.new.items ≡ out.old.items ++ printed_date octets.now) }
 {

@@ -32,7 +32,7 @@ static POWERS: [u128; 22] = [
     1_000_000_000_000_000_000_000,
 ];
 
-/// Returns 10 to the power of `digits`.
+// Returns 10 to the power of `digits`.
 pub(crate) fn power_of_ten(digits: u32) -> u128
     requires { digits ≤ 21 }
     ensures value { result ≡ 10 ^ digits }
@@ -42,7 +42,7 @@ pub(crate) fn power_of_ten(digits: u32) -> u128
     POWERS[digits as usize]
 }
 
-/// Appends the decimal to `out`.
+// Appends the decimal to `out`.
 pub(crate) fn put_decimal(out: &mut Vec<u8>, decimal: Decimal) -> Result<(), AllocError>
     ensures { OnOk result (out.new.items
         ≡ out.old.items ++ printed_decimal decimal.numerator decimal.digits) }
@@ -93,14 +93,14 @@ fn put_last_digits(out: &mut Vec<u8>, number: u128, digits: u32) -> Result<(), A
     Ok(())
 }
 
-/// Returns the second last digit of the number.
+// Returns the second last digit of the number.
 pub(crate) fn tens(number: u64) -> u8
     ensures { result ≡ 48 + number / 10 ^ 1 % 10 }
 {
     b'0' + (number / 10 % 10) as u8
 }
 
-/// Returns the last digit of the number.
+// Returns the last digit of the number.
 pub(crate) fn ones(number: u64) -> u8
     ensures { result ≡ 48 + number / 10 ^ 0 % 10 }
 {

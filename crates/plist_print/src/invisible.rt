@@ -7,7 +7,7 @@ ghost use Rattle.plist_print.specs.Units.{is_blank, is_visible_pair, is_invisibl
 use ucd_category::GeneralCategory;
 use ucd_derived::is_default_ignorable_code_point;
 
-/// Returns the character of a surrogate pair, if it is visible.
+// Returns the character of a surrogate pair, if it is visible.
 pub(crate) fn visible_pair(high: u16, low: u16) -> Option<char>
     ensures { result ≡ (if is_visible_pair high low then Some (surrogate_pair_char high low)
         else None) }
@@ -25,7 +25,7 @@ pub(crate) fn visible_pair(high: u16, low: u16) -> Option<char>
     Some(character)
 }
 
-/// Returns the character of a single unit, if it is visible.
+// Returns the character of a single unit, if it is visible.
 #[tactic(auto, unfolding(crate::specs::Units::is_invisible))]
 pub(crate) fn visible_unit(unit: u16) -> Option<char>
     ensures { result ≡ (if is_invisible unit then None else Some unit) }

@@ -15,7 +15,7 @@ use std::alloc::AllocError;
 // Two spaces for each of 32 levels.
 static BLANKS: [u8; 64] = [b' '; 64];
 
-/// Writes what precedes a value of a dictionary.
+// Writes what precedes a value of a dictionary.
 pub(crate) fn begin_pair<W: Sink>(
     key: &TextRef,
     level: u64,
@@ -28,7 +28,7 @@ pub(crate) fn begin_pair<W: Sink>(
     print_key(key, out)
 }
 
-/// Writes the closing bracket on its own line.
+// Writes the closing bracket on its own line.
 pub(crate) fn end_lines<W: Sink>(
     level: u64,
     close: u8,
@@ -50,7 +50,7 @@ fn put_end(out: &mut Vec<u8>, level: u64, close: u8) -> Result<(), AllocError>
     out.extend_from_slice(&[close, b'\n'])
 }
 
-/// Writes the spaces at the start of a line.
+// Writes the spaces at the start of a line.
 pub(crate) fn begin_line<W: Sink>(level: u64, out: &mut BufferedSink<W>) -> Result<(), WriteFault>
     ensures emits { Emits (indent level)
         (sink_state W.Sink out.old) (sink_state W.Sink out.new) result }
@@ -72,7 +72,7 @@ fn print_key<W: Sink>(key: &TextRef, out: &mut BufferedSink<W>) -> Result<(), Wr
     out.put(b" => ")
 }
 
-/// Appends the spaces at the start of a line of this level.
+// Appends the spaces at the start of a line of this level.
 pub(crate) fn put_indent(out: &mut Vec<u8>, level: u64) -> Result<(), AllocError>
     ensures { OnOk result (out.new.items ≡ out.old.items ++ indent level) }
 {

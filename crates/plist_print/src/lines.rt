@@ -17,13 +17,13 @@ use plist_value::{ScalarRef, TextRef};
 use plist_write::{BufferedSink, WriteFault};
 use std::alloc::AllocError;
 
-/// Writes a scalar up to the end of its last line. `level` is the level of the line that it begins
-/// on. A piece of a printed text has less than 8 KiB.
-///
-/// # Errors
-///
-/// [`WriteFault::WriteFailed`] (51) if the sink fails, and [`WriteFault::OutOfMemory`] (60) if out
-/// of memory for a piece, or if the output would exceed `u64::MAX` bytes.
+// Writes a scalar up to the end of its last line. `level` is the level of the line that it begins
+// on. A piece of a printed text has less than 8 KiB.
+//
+// # Errors
+//
+// [`WriteFault::WriteFailed`] (51) if the sink fails, and [`WriteFault::OutOfMemory`] (60) if out
+// of memory for a piece, or if the output would exceed `u64::MAX` bytes.
 pub(crate) fn print_scalar<W: Sink>(
     scalar: &ScalarRef,
     level: u64,
@@ -85,11 +85,11 @@ fn print_text_line<W: Sink>(text: &TextRef, out: &mut BufferedSink<W>) -> Result
     out.put(b"\n")
 }
 
-/// Writes the string in quotes.
-///
-/// # Errors
-///
-/// Fails like [`print_scalar`].
+// Writes the string in quotes.
+//
+// # Errors
+//
+// Fails like [`print_scalar`].
 pub(crate) fn print_text<W: Sink>(
     text: &TextRef,
     out: &mut BufferedSink<W>,

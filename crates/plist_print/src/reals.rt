@@ -207,7 +207,7 @@ fn decimal_of_single(bits: u32) -> Option<Decimal>
     shortest(&placed(0x80_0000, fraction, shift))
 }
 
-/// Appends a real of eight bytes to `out`.
+// Appends a real of eight bytes to `out`.
 pub(crate) fn put_double(out: &mut Vec<u8>, octets: &[u8; 8]) -> Result<(), AllocError>
     ensures { OnOk result (out.new.items ≡ out.old.items ++ printed_real double octets.now) }
 {
@@ -225,7 +225,7 @@ pub(crate) fn put_double(out: &mut Vec<u8>, octets: &[u8; 8]) -> Result<(), Allo
     )
 }
 
-/// Appends a real of four bytes to `out`.
+// Appends a real of four bytes to `out`.
 pub(crate) fn put_single(out: &mut Vec<u8>, octets: &[u8; 4]) -> Result<(), AllocError>
     ensures { OnOk result (out.new.items ≡ out.old.items ++ printed_real single octets.now) }
 {

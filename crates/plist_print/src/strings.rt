@@ -12,9 +12,9 @@ use crate::invisible::{visible_pair, visible_unit};
 use plist_value::{TextRef, digits_of};
 use std::alloc::AllocError;
 
-/// Appends some of the units from position `index` on to `out`, and returns the position after
-/// them. This is a sequence of characters that need no escape if the string is stored as ASCII.
-/// Otherwise, it is one unit, or the two units of a surrogate pair.
+// Appends some of the units from position `index` on to `out`, and returns the position after
+// them. This is a sequence of characters that need no escape if the string is stored as ASCII.
+// Otherwise, it is one unit, or the two units of a surrogate pair.
 pub(crate) fn put_some(out: &mut Vec<u8>, text: &TextRef, index: usize) -> Result<usize, AllocError>
     requires { index < length (units_of text.now) }
     ensures octets { IfOk result (λ next. PutsPiece out.old.items out.new.items

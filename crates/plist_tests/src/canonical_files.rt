@@ -7,7 +7,7 @@ use std::alloc::{AllocError, Global};
 use std::test::Fail;
 use test_files::Draft;
 
-/// Returns the canonical file of the value that the bytes encode.
+// Returns the canonical file of the value that the bytes encode.
 pub(crate) fn canonical_file(alloc: Global, octets: &[u8]) -> Result<Vec<u8>, AllocError> {
     match judge_file(alloc, octets) {
         Ok(judged) => canonical_of(alloc, FixedHasher::new(), judged),

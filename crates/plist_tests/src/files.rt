@@ -86,8 +86,8 @@ fn marked(alloc: Global) -> Result<Vec<u8>, AllocError> {
     Ok(file)
 }
 
-/// Returns the file of an array of the strings 000, 001 and so on, `count` of them, with references
-/// of `width` bytes.
+// Returns the file of an array of the strings 000, 001 and so on, `count` of them, with references
+// of `width` bytes.
 pub(crate) fn numbers(alloc: Global, count: u8, width: u8) -> Result<Vec<u8>, AllocError> {
     let mut list = Vec::from_slice(alloc, &[0xaf, 0x10, count])?;
     for number in 1..=u64::from(count) {
@@ -103,7 +103,7 @@ pub(crate) fn numbers(alloc: Global, count: u8, width: u8) -> Result<Vec<u8>, Al
     draft.finish(2, width)
 }
 
-/// Returns these bytes, and then this one `count` times.
+// Returns these bytes, and then this one `count` times.
 pub(crate) fn padded(
     alloc: Global,
     head: &[u8],
@@ -116,8 +116,8 @@ pub(crate) fn padded(
     Ok(octets)
 }
 
-/// Returns the file of data of `count` zeros, with this marker and count, and offsets of `width`
-/// bytes.
+// Returns the file of data of `count` zeros, with this marker and count, and offsets of `width`
+// bytes.
 pub(crate) fn zeros(
     alloc: Global,
     head: &[u8],
@@ -129,8 +129,8 @@ pub(crate) fn zeros(
     draft.finish(width, 1)
 }
 
-/// Returns files of at most 80 bytes, and canonical files of 288 to 2,598 bytes: of 255 and 256
-/// objects, with offset tables below and at offset 256, and of arrays 512 deep.
+// Returns files of at most 80 bytes, and canonical files of 288 to 2,598 bytes: of 255 and 256
+// objects, with offset tables below and at offset 256, and of arrays 512 deep.
 pub(crate) fn files(alloc: Global) -> Result<Vec<Vec<u8>>, AllocError> {
     let mut files = Vec::new(alloc);
     for object in ALONE {

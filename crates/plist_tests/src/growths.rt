@@ -106,7 +106,7 @@ fn checked(
     Ok(check(alloc, octets.as_slice()))
 }
 
-/// The objects, the first byte of the trailer, and the verdict on the file.
+// The objects, the first byte of the trailer, and the verdict on the file.
 const CHECKED: [(&[u8], u8, Verdict); 4] = [
     (b"\xd2\x01\x02\x02\x01QaQb", 0, Verdict::Canonical),
     (b"\xd2\x02\x01\x01\x02QbQa", 0, BROKEN_7),

@@ -79,32 +79,32 @@ fn heavy_keys(alloc: Global, last: u8) -> Result<Vec<u8>, AllocError> {
     draft.finish(4, 1)
 }
 
-/// A generated file.
+// A generated file.
 #[derive(Clone, Copy)]
 enum Shape {
-    /// A number of objects: arrays that each contain the next one, and a last one of this byte.
+    // A number of objects: arrays that each contain the next one, and a last one of this byte.
     Chain(u16, u8),
-    /// Like `Chain`, with references of three bytes, and a boolean at the end.
+    // Like `Chain`, with references of three bytes, and a boolean at the end.
     LongChain(u32),
-    /// Two chains, one of which ends in the other.
+    // Two chains, one of which ends in the other.
     SharedChain,
-    /// Thirty arrays that each contain the next object twice.
+    // Thirty arrays that each contain the next object twice.
     Tower,
-    /// Thirty dictionaries that each contain the next object twice.
+    // Thirty dictionaries that each contain the next object twice.
     TowerOfTables,
-    /// An array that contains a boolean this number of times.
+    // An array that contains a boolean this number of times.
     Flags(u32),
-    /// An array that contains data of 1,048,576 bytes this number of times, with offsets of this
-    /// width.
+    // An array that contains data of 1,048,576 bytes this number of times, with offsets of this
+    // width.
     Data(u32, u8),
-    /// An array that contains a string of 524,288 units this number of times.
+    // An array that contains a string of 524,288 units this number of times.
     Texts(u32),
-    /// An array of this number of strings of three digits, with references of this width.
+    // An array of this number of strings of three digits, with references of this width.
     Numbers(u8, u8),
-    /// Data with this marker and count and this number of zeros, with an offset of this width.
+    // Data with this marker and count and this number of zeros, with an offset of this width.
     Zeros(&'static [u8], u8, u8),
-    /// A dictionary whose keys have the maximum payload of a value, and as one more key this
-    /// object.
+    // A dictionary whose keys have the maximum payload of a value, and as one more key this
+    // object.
     HeavyKeys(u8),
 }
 
@@ -128,15 +128,15 @@ impl Shape {
     }
 }
 
-/// The result of the validator, the reader and `canonicalise`.
+// The result of the validator, the reader and `canonicalise`.
 #[derive(Clone, Copy)]
 enum Answer {
-    /// All refuse the file with this fault.
+    // All refuse the file with this fault.
     Refused(BinaryFault),
-    /// All accept the file, which is the canonical file of the value that is read.
+    // All accept the file, which is the canonical file of the value that is read.
     Read,
-    /// The file is accepted and is its own canonical file. It is not read, because its value needs
-    /// much memory.
+    // The file is accepted and is its own canonical file. It is not read, because its value needs
+    // much memory.
     Judged,
 }
 
@@ -162,8 +162,8 @@ const ZEROS_244: Shape = Shape::Zeros(b"\x4f\x10\xf4", 244, 1);
 
 const ZEROS_245: Shape = Shape::Zeros(b"\x4f\x10\xf5", 245, 2);
 
-/// A shape, the size of its file, the result, and the rule that the check finds broken, with the
-/// object.
+// A shape, the size of its file, the result, and the rule that the check finds broken, with the
+// object.
 type Row = (Shape, usize, Answer, Option<(u8, u64)>);
 
 // The check finds rule 0 broken at object 0 for a value beyond the limits. It reaches the container

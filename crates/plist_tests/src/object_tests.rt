@@ -8,7 +8,7 @@ use std::alloc::AllocError;
 use std::test::Fail;
 use test_files::file_of;
 
-/// Numbers, and the bytes that each takes.
+// Numbers, and the bytes that each takes.
 const WIDTHS: [(u64, u8); 8] = [
     (0, 1),
     (0xff, 1),
@@ -20,10 +20,10 @@ const WIDTHS: [(u64, u8); 8] = [
     (u64::MAX, 8),
 ];
 
-/// The bytes of a marker and a length, by the length.
+// The bytes of a marker and a length, by the length.
 const HEADS: [(usize, u64); 5] = [(0, 1), (14, 1), (15, 3), (255, 3), (256, 4)];
 
-/// Whole numbers, and the bytes of each.
+// Whole numbers, and the bytes of each.
 const WHOLES: [(i128, u64); 7] = [
     (0, 2),
     (255, 2),

@@ -65,20 +65,20 @@ fn full(alloc: Global, objects: &[&[u8]]) -> Result<Vec<u8>, AllocError> {
     draft.finish(4, 2)
 }
 
-/// The objects from number 511 on.
+// The objects from number 511 on.
 type Objects = &'static [&'static [u8]];
 
-/// A reference to no object, and one to the top array.
+// A reference to no object, and one to the top array.
 const NO_OBJECT: Objects = &[b"\xa1\xff\xff"];
 
 const TOP: Objects = &[b"\xa1\0\0"];
 
-/// A reference to a boolean, and one to a null.
+// A reference to a boolean, and one to a null.
 const ONE: Objects = &[b"\xa1\x02\x00", b"\x09"];
 
 const NULL: Objects = &[b"\xa1\x02\x00", b"\x00"];
 
-/// A dictionary whose key is a boolean, and one with a duplicate key.
+// A dictionary whose key is a boolean, and one with a duplicate key.
 const KEY: Objects = &[b"\xd1\x02\x00\x02\x00", b"\x09"];
 
 const TWICE: Objects = &[b"\xd2\x02\x00\x02\x01\x02\x00\x02\x00", b"Qa", b"Qa"];
@@ -91,8 +91,8 @@ const DEEP: BinaryFault = BinaryFault::TooDeep { object: 512 };
 
 const NODES: BinaryFault = BinaryFault::TooManyNodes { object: 512 };
 
-/// The objects from number 511 on, the refusal if all are at the depth limit (`deep`), and the
-/// refusal if they also come after the last node allowed (`full`).
+// The objects from number 511 on, the refusal if all are at the depth limit (`deep`), and the
+// refusal if they also come after the last node allowed (`full`).
 const ROWS: [(Objects, BinaryFault, BinaryFault); 6] = [
     (NO_OBJECT, REFERENCE, REFERENCE),
     (TOP, CYCLE, CYCLE),

@@ -51,7 +51,7 @@ fn a_sink_of_any_step(rt: HostRuntime) -> Result<(), Fail> {
     Ok(())
 }
 
-/// A device whose count of failures is at its maximum, so that each take and each put fails.
+// A device whose count of failures is at its maximum, so that each take and each put fails.
 #[derive(Drop)]
 struct Spent;
 

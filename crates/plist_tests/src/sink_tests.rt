@@ -3,7 +3,7 @@ use crate::devices::{BrokenWriter, Narrow};
 use plist_devices::{DeviceFault, Sink, Stream, WriterSink, put_all};
 use std::test::Fail;
 
-/// The bytes put, and the result.
+// The bytes put, and the result.
 type Put = (&'static [u8], Result<usize, DeviceFault>);
 
 // Returns the bytes of the first put with another result.
@@ -16,13 +16,13 @@ fn wrong_put<S: Sink>(sink: &mut S, puts: &[Put]) -> Option<&'static [u8]> {
     None
 }
 
-/// Puts to a writer with enough room.
+// Puts to a writer with enough room.
 const TAKEN: [Put; 2] = [(b"abc", Ok(3)), (b"", Ok(0))];
 
-/// Puts to a writer with room for one byte.
+// Puts to a writer with room for one byte.
 const NARROW: [Put; 3] = [(b"abc", Ok(1)), (b"bc", Err(DeviceFault)), (b"", Ok(0))];
 
-/// Puts to a writer that fails.
+// Puts to a writer that fails.
 const BROKEN: [Put; 2] = [(b"abc", Err(DeviceFault)), (b"", Err(DeviceFault))];
 
 #[test]

@@ -1,7 +1,7 @@
 //! Texts, accepted and refused.
 use std::alloc::{AllocError, Global};
 
-/// Texts of at most 80 bytes.
+// Texts of at most 80 bytes.
 pub(crate) const SMALL_TEXTS: [&[u8]; 41] = [
     b"{}",
     b"{b=a;a=b;}",
@@ -46,14 +46,14 @@ pub(crate) const SMALL_TEXTS: [&[u8]; 41] = [
     b"a\xed\xa0\x80",
 ];
 
-/// A beginning, a part that is repeated, a middle, another part that is repeated as often, and an
-/// end.
+// A beginning, a part that is repeated, a middle, another part that is repeated as often, and an
+// end.
 pub(crate) type Parts = [&'static [u8]; 5];
 
-/// Nested arrays.
+// Nested arrays.
 pub(crate) const LISTS: Parts = [b"", b"(", b"a", b")", b""];
 
-/// Returns the text of these parts, with the repeated ones `count` times.
+// Returns the text of these parts, with the repeated ones `count` times.
 pub(crate) fn nested(alloc: Global, parts: &Parts, count: usize) -> Result<Vec<u8>, AllocError> {
     let [front, opening, middle, ending, end] = *parts;
     let mut text = Vec::from_slice(alloc, front)?;

@@ -11,7 +11,7 @@ use std::ops::Range;
 use std::test::Fail;
 use test_files::one;
 
-/// The outcome of a conversion: its result, how often the source failed, and the sink.
+// The outcome of a conversion: its result, how often the source failed, and the sink.
 #[derive(Drop)]
 struct Sent {
     answer: Result<u64, Fault>,
@@ -102,7 +102,7 @@ fn a_sink_of_any_room_holds_a_front(rt: HostRuntime) -> Result<(), Fail> {
     Ok(())
 }
 
-/// An input, the form to convert it to, and the number of the refusal.
+// An input, the form to convert it to, and the number of the refusal.
 const REFUSED: [(&[u8], Form, u8); 6] = [
     (b"{a;a=b;}", Form::Binary1, 14),
     (b"{a;a=b;}", Form::OpenStep, 14),
@@ -145,8 +145,8 @@ fn long_data(alloc: Global) -> Result<Vec<u8>, AllocError> {
     Ok(text)
 }
 
-/// The first four bytes of the first object of a file, the offset of the offset table, and the
-/// widths of offsets and references.
+// The first four bytes of the first object of a file, the offset of the offset table, and the
+// widths of offsets and references.
 type Layout = ([u8; 4], u64, u8, u8);
 
 const MANY: Layout = ([0xaf, 0x11, 0xea, 0x60], 480_012, 4, 2);

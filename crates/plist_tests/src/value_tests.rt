@@ -61,7 +61,7 @@ fn found(alloc: Global, held: ScalarRef, wanted: &[ScalarRef]) -> Result<Vec<boo
     Ok(found)
 }
 
-/// A string is found however it is stored, and neither another nor data of the same bytes.
+// A string is found however it is stored, and neither another nor data of the same bytes.
 #[test]
 fn strings_are_keys_however_they_are_stored(rt: HostRuntime) -> Result<(), Fail> {
     let alloc = rt.alloc();

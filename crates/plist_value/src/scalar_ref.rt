@@ -97,7 +97,7 @@ impl<'a> ScalarRef<'a> {
     }
 }
 
-/// Compares kind and content, from wherever each is borrowed.
+// Compares kind and content, from wherever each is borrowed.
 impl<'a> PartialEq for ScalarRef<'a> {
     ghost eq = { on content_of scalar_eq };
 
@@ -121,9 +121,9 @@ impl<'a> Eq for ScalarRef<'a> {
     ghost laws = { on_equiv content_of scalar_eq-equiv };
 }
 
-/// Hashes the content and the kind alone. The kind comes last, so that a hasher that takes eight
-/// bytes at a time is fed whole words before it. The last byte of a string is above the kinds of
-/// all other scalars. Bytes are fed in one write.
+// Hashes the content and the kind alone. The kind comes last, so that a hasher that takes eight
+// bytes at a time is fed whole words before it. The last byte of a string is above the kinds of
+// all other scalars. Bytes are fed in one write.
 impl<'a> Hash for ScalarRef<'a> {
     ghost hash_input = { λ scalar. fed_scalar (content_of scalar) };
 

@@ -234,7 +234,7 @@ impl<'a> Eq for TextRef<'a> {
     ghost laws = { Prim.search (comparing, rules) };
 }
 
-/// Compares unit by unit; a proper prefix is less.
+// Compares unit by unit; a proper prefix is less.
 impl<'a> Ord for TextRef<'a> {
     ghost cmp = { on units_of (slice_cmp nat_cmp) };
 
@@ -265,8 +265,8 @@ impl<'a> PartialOrd for TextRef<'a> {
     }
 }
 
-/// Hashes the units alone, without a copy: eight in each write if all are below 256, and otherwise
-/// four.
+// Hashes the units alone, without a copy: eight in each write if all are below 256, and otherwise
+// four.
 impl<'a> Hash for TextRef<'a> {
     ghost hash_input = { λ text. fed_text (units_of text) };
 

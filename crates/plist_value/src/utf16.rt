@@ -68,7 +68,7 @@ impl Eq for Utf16 {
     ghost laws = { Prim.search (comparing, rules) };
 }
 
-/// Compares unit by unit; a proper prefix is less.
+// Compares unit by unit; a proper prefix is less.
 impl Ord for Utf16 {
     ghost cmp = { slice_cmp nat_cmp };
 
@@ -94,7 +94,7 @@ impl PartialOrd for Utf16 {
     }
 }
 
-/// Hashes the units alone, like a `TextRef` of them.
+// Hashes the units alone, like a `TextRef` of them.
 impl Hash for Utf16 {
     ghost hash_input = { fed_text };
 

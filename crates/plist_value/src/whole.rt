@@ -69,7 +69,7 @@ impl Eq for Whole {
     ghost laws = { Prim.search (comparing, rules) };
 }
 
-/// Hashes the number alone.
+// Hashes the number alone.
 impl Hash for Whole {
     ghost use Rattle.plist_value.specs.Wholes.{integer_of};
 

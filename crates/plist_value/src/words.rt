@@ -14,7 +14,7 @@ pub(crate) fn word(a: u16, b: u16, c: u16, d: u16) -> u64
     u64::from(low) + 4_294_967_296 * u64::from(high)
 }
 
-/// Feeds the units to the hasher: four in each write, and the rest in a last one.
+// Feeds the units to the hasher: four in each write, and the rest in a last one.
 pub(crate) fn feed<H: Hasher>(units: &[u16], state: &mut H)
     ensures { state.new ≡ fold H.write state.old (fed_units units.now) }
 {
@@ -31,8 +31,8 @@ pub(crate) fn feed<H: Hasher>(units: &[u16], state: &mut H)
     }
 }
 
-/// Feeds the bytes, one for each unit, to the hasher: eight in each write, and the rest in a last
-/// one.
+// Feeds the bytes, one for each unit, to the hasher: eight in each write, and the rest in a last
+// one.
 pub(crate) fn feed_octets<H: Hasher>(octets: &[u8], state: &mut H)
     ensures { state.new ≡ fold H.write state.old (fed_text octets.now) }
 {

@@ -16,14 +16,14 @@ const LEAST: u64 = 64;
 
 const MOST: u64 = 1 << 31;
 
-/// A bit vector, with 64 bits in each word.
+// A bit vector, with 64 bits in each word.
 #[derive(Drop)]
 pub(crate) struct Bits {
     pub(crate) words: Vec<u64>,
 }
 
 impl Bits {
-    /// Returns a vector whose bits up to `mask` are all clear.
+    // Returns a vector whose bits up to `mask` are all clear.
     pub(crate) fn new(alloc: Global, mask: u32) -> Result<Bits, AllocError>
         ensures { IfOk result (IsClear mask) }
     {
@@ -32,7 +32,7 @@ impl Bits {
         Ok(Bits { words })
     }
 
-    /// Returns whether the bit is set. Bits past the end count as set.
+    // Returns whether the bit is set. Bits past the end count as set.
     #[inline(always)]
     pub(crate) fn has(&self, bit: u32) -> bool
         ensures { IsTrue result ↔ HasBit self.now bit }
@@ -48,7 +48,7 @@ impl Bits {
         set_bit(&mut self.words, bit);
     }
 
-    /// Sets the bit if `wanted`, without a branch that the processor could mispredict.
+    // Sets the bit if `wanted`, without a branch that the processor could mispredict.
     #[inline(always)]
     pub(crate) fn set_if(&mut self, bit: u32, wanted: bool)
         ensures set { IsTrue wanted → HasBit self.new bit }
@@ -91,15 +91,15 @@ fn set_bit_if(words: &mut [u64], bit: u32, wanted: bool)
     }
 }
 
-/// Returns the number of the greatest bit of a vector of about `bits` bits. It is one less than a
-/// power of two, so that it is also a mask.
+// Returns the number of the greatest bit of a vector of about `bits` bits. It is one less than a
+// power of two, so that it is also a mask.
 pub(crate) fn mask_for(bits: u64) -> u32 {
     let bits = bits.clamp(LEAST, MOST) as u32;
     u32::MAX.checked_shr(bits.leading_zeros()).unwrap_or(0)
 }
 
-/// Returns the bit of the scalar, from 1 to `mask`. Non-negative integers up to `mask` have their
-/// own value as their bit, except 0, which has bit 1. All other scalars are hashed.
+// Returns the bit of the scalar, from 1 to `mask`. Non-negative integers up to `mask` have their
+// own value as their bit, except 0, which has bit 1. All other scalars are hashed.
 #[inline(always)]
 pub(crate) fn bit_of(mask: u32, seed: u64, scalar: &ScalarRef) -> u32
     ensures { result ≡ bit_of mask seed (content_of scalar.now) }
@@ -119,7 +119,7 @@ fn any_bit_of(mask: u32, seed: u64, scalar: &ScalarRef) -> u32
     }
 }
 
-/// Returns the integer that the scalar contains, or `None` if the scalar is negative or no integer.
+// Returns the integer that the scalar contains, or `None` if the scalar is negative or no integer.
 fn as_u64(scalar: ScalarRef) -> Option<u64>
     ensures { result ≡ as_u64 (content_of scalar.entry) }
 {

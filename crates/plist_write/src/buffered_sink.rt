@@ -10,8 +10,8 @@ use crate::WriteFault;
 use plist_devices::{Sink, put_all};
 use std::alloc::AllocError;
 
-/// The number of buffered bytes from which on the buffer is flushed. No piece of a canonical file
-/// has more, unless a single object has.
+// The number of buffered bytes from which on the buffer is flushed. No piece of a canonical file
+// has more, unless a single object has.
 pub(crate) const PIECE: u64 = 4096;
 
 /// A buffered writer over a sink. `sent` counts the bytes that the sink took.
@@ -119,11 +119,11 @@ impl<'a, W: Sink> BufferedSink<'a, W> {
         }
     }
 
-    /// Flushes the buffer, and then sends these bytes without a copy.
-    ///
-    /// # Errors
-    ///
-    /// Fails like [`flush_unchecked`](BufferedSink::flush_unchecked).
+    // Flushes the buffer, and then sends these bytes without a copy.
+    //
+    // # Errors
+    //
+    // Fails like [`flush_unchecked`](BufferedSink::flush_unchecked).
     pub(crate) fn send_long(&mut self, octets: &[u8]) -> Result<(), WriteFault>
         requires { CanTake octets.now (sink_state W.Sink self.old) }
         ensures emits { Emits octets.now
@@ -155,11 +155,11 @@ impl<'a, W: Sink> BufferedSink<'a, W> {
         }
     }
 
-    /// Flushes the buffer if `more` bytes would make it longer than a piece.
-    ///
-    /// # Errors
-    ///
-    /// Fails like [`flush_unchecked`](BufferedSink::flush_unchecked).
+    // Flushes the buffer if `more` bytes would make it longer than a piece.
+    //
+    // # Errors
+    //
+    // Fails like [`flush_unchecked`](BufferedSink::flush_unchecked).
     pub(crate) fn make_room(&mut self, more: u64) -> Result<(), WriteFault>
         requires { CanTake [] (sink_state W.Sink self.old) }
         ensures emits { Emits [] (sink_state W.Sink self.old) (sink_state W.Sink self.new) result }

@@ -35,8 +35,8 @@ impl WriteFault {
     }
 }
 
-/// Prints the number and the name of the error, and how much was written, as in
-/// `51 WriteFailed after 10 octets`.
+// Prints the number and the name of the error, and how much was written, as in
+// `51 WriteFailed after 10 octets`.
 impl fmt::Display for WriteFault {
     ghost use Rattle.std.specs.Prelude.{Some};
     ghost use Rattle.plist_write.specs.Sending.{write_text};
@@ -49,7 +49,7 @@ impl fmt::Display for WriteFault {
     }
 }
 
-/// Out of memory before the first byte was written.
+// Out of memory before the first byte was written.
 impl From<AllocError> for WriteFault {
     ghost from_gives = { λ _ fault. fault ≡ OutOfMemory 0 };
 

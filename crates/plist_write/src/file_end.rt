@@ -10,15 +10,15 @@ use crate::{BufferedSink, WriteFault};
 use plist_devices::Sink;
 use plist_object::{put_number, width_of};
 
-/// The size of a trailer.
+// The size of a trailer.
 const TRAILER: u64 = 32;
 
-/// Sends the offset table and the trailer of a file whose objects begin at these offsets, and
-/// flushes the buffer. All bytes before them were already written.
-///
-/// # Errors
-///
-/// Fails like [`send_object`](crate::sending::send_object).
+// Sends the offset table and the trailer of a file whose objects begin at these offsets, and
+// flushes the buffer. All bytes before them were already written.
+//
+// # Errors
+//
+// Fails like [`send_object`](crate::sending::send_object).
 pub(crate) fn send_end<W: Sink>(
     offsets: &[u64],
     out: &mut BufferedSink<W>,

@@ -10,8 +10,8 @@ use plist_object::{
 use plist_value::ScalarRef;
 use std::alloc::AllocError;
 
-/// An object of the canonical file: the bytes of a scalar in its canonical encoding, a scalar, the
-/// numbers of an array's items, or the numbers of a dictionary's keys and values.
+// An object of the canonical file: the bytes of a scalar in its canonical encoding, a scalar, the
+// numbers of an array's items, or the numbers of a dictionary's keys and values.
 #[derive(Clone, Copy)]
 pub(crate) enum NewObject<'a, 'b> {
     Spelled(&'a [u8]),
@@ -20,7 +20,7 @@ pub(crate) enum NewObject<'a, 'b> {
     Table(&'b [u32], &'b [u32]),
 }
 
-/// Returns the number of bytes of the object, with references of `width` bytes.
+// Returns the number of bytes of the object, with references of `width` bytes.
 #[inline(always)]
 pub(crate) fn object_length(width: u8, object: &NewObject) -> u64
     requires width { IsWidth width }
@@ -35,7 +35,7 @@ pub(crate) fn object_length(width: u8, object: &NewObject) -> u64
     }
 }
 
-/// Appends the object to `out`.
+// Appends the object to `out`.
 pub(crate) fn put_object(out: &mut Vec<u8>, width: u8, object: &NewObject) -> Result<(), AllocError>
     requires width { IsWidth width }
     requires spellable { CanSpellObject width object.now }
@@ -50,7 +50,7 @@ pub(crate) fn put_object(out: &mut Vec<u8>, width: u8, object: &NewObject) -> Re
     }
 }
 
-/// Appends the trailer of a file of `count` objects whose offset table is at `offset`.
+// Appends the trailer of a file of `count` objects whose offset table is at `offset`.
 pub(crate) fn put_trailer(out: &mut Vec<u8>, count: u64, offset: u64) -> Result<(), AllocError>
     ensures { OnOk result (out.new.items ≡ out.old.items ++ trailer_octets count offset) }
 {

@@ -16,8 +16,8 @@ use std::hash::BuildHasher;
 // Marks an object that has no number.
 const NO_NUMBER: u32 = u32::MAX;
 
-/// Marks an object that has no number, and whose scalar no other object contains. All smaller
-/// values are numbers.
+// Marks an object that has no number, and whose scalar no other object contains. All smaller
+// values are numbers.
 pub(crate) const UNIQUE: u32 = NO_NUMBER - 1;
 
 // With fewer scalars than this in the map, looking for unique objects does not pay.
@@ -26,7 +26,7 @@ const MANY: usize = 4_096;
 // Strings and data of at least this many units or bytes are long.
 const LONG: usize = 32;
 
-/// The number of each object of the file that was visited as a scalar.
+// The number of each object of the file that was visited as a scalar.
 #[derive(Drop)]
 pub(crate) struct ObjectNumbers {
     pub(crate) numbers: Vec<u32>,
@@ -37,7 +37,7 @@ pub(crate) struct ObjectNumbers {
 }
 
 impl ObjectNumbers {
-    /// Returns the numbers of `count` objects, none of which was visited.
+    // Returns the numbers of `count` objects, none of which was visited.
     pub(crate) fn new(alloc: Global, count: u64) -> Result<ObjectNumbers, AllocError>
         ensures listed { IfOk result (λ memo. length memo.numbers.items ≡ count) }
         ensures none { IfOk result (λ memo. (i : ℕ) → kept memo i ≡ NO_NUMBER) }
@@ -51,7 +51,7 @@ impl ObjectNumbers {
         })
     }
 
-    /// Returns the number of the object, if it was visited.
+    // Returns the number of the object, if it was visited.
     #[inline(always)]
     pub(crate) fn number_of(&self, object: u64) -> Option<u32>
         ensures is { IfSome result (λ number. kept self.now object ≡ number) }
@@ -64,8 +64,8 @@ impl ObjectNumbers {
         }
     }
 
-    /// Returns whether the object is known to contain a scalar that no other object contains, and
-    /// was not visited.
+    // Returns whether the object is known to contain a scalar that no other object contains, and
+    // was not visited.
     #[inline(always)]
     pub(crate) fn is_unique(&self, object: u64) -> bool
         ensures { result ≡ true → kept self.now object ≡ UNIQUE }
@@ -83,8 +83,8 @@ impl ObjectNumbers {
         }
     }
 
-    /// Like [`keep`](ObjectNumbers::keep), but later objects at the same offset are found if the
-    /// scalar of the object is long.
+    // Like [`keep`](ObjectNumbers::keep), but later objects at the same offset are found if the
+    // scalar of the object is long.
     pub(crate) fn keep_scalar(
         &mut self,
         file: &BinFile,
@@ -102,8 +102,8 @@ impl ObjectNumbers {
         Ok(())
     }
 
-    /// Returns the number of an object that was visited and begins at the same offset, if the
-    /// scalar is long. Many objects may be the same bytes, which are then hashed only once.
+    // Returns the number of an object that was visited and begins at the same offset, if the
+    // scalar is long. Many objects may be the same bytes, which are then hashed only once.
     pub(crate) fn number_at(&self, file: &BinFile, object: u64, scalar: &ScalarRef) -> Option<u32>
         requires { object < (trailer_of (octets_of file.now)).count }
         ensures { IfSome result (IsNumberAt (octets_of file.now) object self.now) }
@@ -121,8 +121,8 @@ impl ObjectNumbers {
         Some(number)
     }
 
-    /// Looks for unique objects, unless that was already done or there are too few scalars in the
-    /// map for it to pay.
+    // Looks for unique objects, unless that was already done or there are too few scalars in the
+    // map for it to pay.
     #[inline(always)]
     pub(crate) fn find_unique<S: BuildHasher>(
         &mut self,

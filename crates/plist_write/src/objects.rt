@@ -6,7 +6,7 @@ ghost use Rattle.plist_write.specs.Spelling.{IsRead};
 
 use plist_object::{BinFile, Object};
 
-/// Decodes an object that is known to be valid.
+// Decodes an object that is known to be valid.
 pub(crate) fn object_of<'a>(file: &BinFile<'a>, n: u64) -> Object<'a>
     requires { IsRead (octets_of file.now) n }
     ensures holds { Holds (octets_of file.now) n (held_of result) }

@@ -9,12 +9,12 @@ ghost use Rattle.plist_write.specs.Spelling.{IsTableOf, SpellTable, sorted_refer
 use plist_object::{BinFile, KeyOrder, Refs, to_u32};
 use std::alloc::{AllocError, Global};
 
-/// Appends the references to a dictionary's keys, in ascending order of the keys, and then the
-/// references to its values in the same order.
-///
-/// # Errors
-///
-/// [`AllocError`] if out of memory.
+// Appends the references to a dictionary's keys, in ascending order of the keys, and then the
+// references to its values in the same order.
+//
+// # Errors
+//
+// [`AllocError`] if out of memory.
 pub(crate) fn push_sorted<'a>(
     alloc: Global,
     file: &BinFile<'a>,
@@ -62,7 +62,7 @@ pub fn sorted_references<'a>(
     Ok(references)
 }
 
-/// Appends the references of an array.
+// Appends the references of an array.
 pub(crate) fn push_all(items: &Refs, references: &mut Vec<u32>) -> Result<(), AllocError>
     ensures { OnOk result (references.new.items ≡ references.old.items ++ numbers_of items.now) }
 {

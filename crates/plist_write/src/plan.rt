@@ -18,16 +18,16 @@ use plist_value::{MAX_NODES, ScalarRef};
 use std::alloc::{AllocError, Global};
 use std::hash::BuildHasher;
 
-/// The objects of a canonical file: for each number the input object that it is written from, and
-/// the references of all containers, one container after another.
+// The objects of a canonical file: for each number the input object that it is written from, and
+// the references of all containers, one container after another.
 #[derive(Drop)]
 pub(crate) struct CanonicalObjects {
     pub(crate) originals: Vec<u32>,
     pub(crate) references: Vec<u32>,
 }
 
-/// The objects so far, and a memo with the number of each input object that was visited as a
-/// scalar. A map contains these scalars, except those that are known to occur in one object only.
+// The objects so far, and a memo with the number of each input object that was visited as a
+// scalar. A map contains these scalars, except those that are known to occur in one object only.
 #[derive(Drop)]
 pub(crate) struct Plan<'a, S: BuildHasher> {
     hasher: S,
@@ -38,8 +38,8 @@ pub(crate) struct Plan<'a, S: BuildHasher> {
 }
 
 impl<'a, S: BuildHasher + Copy> Plan<'a, S> {
-    /// Returns the empty plan. Capacity is reserved for what most files need, but for no more than
-    /// a value within the limits has. Reserved memory that is never used costs nothing.
+    // Returns the empty plan. Capacity is reserved for what most files need, but for no more than
+    // a value within the limits has. Reserved memory that is never used costs nothing.
     pub(crate) fn new(alloc: Global, hasher: S, file: &BinFile) -> Result<Plan<'a, S>, AllocError>
         ensures empty { IfOk result IsEmptyPlan }
         ensures knows { IfOk result (KnowsScalars (octets_of file.now)) }
@@ -58,8 +58,8 @@ impl<'a, S: BuildHasher + Copy> Plan<'a, S> {
         })
     }
 
-    /// Returns the number of the scalar of an object that was not visited before: the number of an
-    /// equal scalar, or a new one.
+    // Returns the number of the scalar of an object that was not visited before: the number of an
+    // equal scalar, or a new one.
     pub(crate) fn scalar(
         &mut self,
         alloc: Global,
@@ -91,8 +91,8 @@ impl<'a, S: BuildHasher + Copy> Plan<'a, S> {
         Ok(next)
     }
 
-    /// Returns a new number for the scalar of an object, which no other object contains. The scalar
-    /// is not read.
+    // Returns a new number for the scalar of an object, which no other object contains. The scalar
+    // is not read.
     #[inline(always)]
     pub(crate) fn unique_scalar(&mut self, object: u64) -> Result<u32, AllocError>
         requires { kept self.old.memo object ≡ UNIQUE }
@@ -108,7 +108,7 @@ impl<'a, S: BuildHasher + Copy> Plan<'a, S> {
         Ok(number)
     }
 
-    /// Keeps only the objects, and frees the map and the memo.
+    // Keeps only the objects, and frees the map and the memo.
     pub(crate) fn into_objects(self) -> CanonicalObjects
         ensures originals { result.originals ≡ self.entry.originals }
         ensures references { result.references ≡ self.entry.references }
@@ -132,7 +132,7 @@ impl<'a, S: BuildHasher + Copy> Plan<'a, S> {
         Ok(number)
     }
 
-    /// Adds an array and appends its references. Returns its number.
+    // Adds an array and appends its references. Returns its number.
     pub(crate) fn begin_list(&mut self, object: u64, items: &Refs) -> Result<u32, AllocError>
         ensures { IfOk result (BeginsContainer object (numbers_of items.now) self.old self.new) }
     {
@@ -143,8 +143,8 @@ impl<'a, S: BuildHasher + Copy> Plan<'a, S> {
         Ok(number)
     }
 
-    /// Adds a dictionary, and appends the references to its keys, in ascending order of the keys,
-    /// and then those to its values in the same order. Returns its number.
+    // Adds a dictionary, and appends the references to its keys, in ascending order of the keys,
+    // and then those to its values in the same order. Returns its number.
     pub(crate) fn begin_table(
         &mut self,
         alloc: Global,

@@ -11,9 +11,9 @@ use crate::new_objects::NewObject;
 use crate::objects::object_of;
 use plist_object::{BinFile, Object};
 
-/// Returns the canonical object of an object of the input, with the first of the numbers as its
-/// references, and the numbers that remain. A scalar whose bytes are recognised as canonical is not
-/// decoded.
+// Returns the canonical object of an object of the input, with the first of the numbers as its
+// references, and the numbers that remain. A scalar whose bytes are recognised as canonical is not
+// decoded.
 pub(crate) fn renumbered_object<'a, 'b>(
     file: &BinFile<'a>,
     object: u64,

@@ -127,8 +127,8 @@ impl RepeatFilter {
         bit != NO_BIT && self.again.has(bit)
     }
 
-    /// Returns whether the object is known to contain a scalar that no other added object contains.
-    /// `false` is only a hint: the scalar may still be unique.
+    // Returns whether the object is known to contain a scalar that no other added object contains.
+    // `false` is only a hint: the scalar may still be unique.
     pub(crate) fn is_unlike(&self, object: usize) -> bool
         requires { object < length self.now.bits.items }
         ensures { IsTrue result ↔ IsUnlike self.now object }
@@ -138,8 +138,8 @@ impl RepeatFilter {
     }
 }
 
-/// Returns the filter of all objects of the file. Returns `None` if making it could read more bytes
-/// than the file has, which happens if scalars overlap, or if an object cannot be decoded.
+// Returns the filter of all objects of the file. Returns `None` if making it could read more bytes
+// than the file has, which happens if scalars overlap, or if an object cannot be decoded.
 pub(crate) fn filter_of<S: BuildHasher>(
     alloc: Global,
     hasher: &S,

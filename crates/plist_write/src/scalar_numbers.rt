@@ -48,7 +48,7 @@ impl<'a, S: BuildHasher> ScalarNumbers<'a, S> {
         }
     }
 
-    /// Returns the number of scalars in the hash map.
+    // Returns the number of scalars in the hash map.
     pub(crate) fn len(&self) -> usize {
         self.hashed.len()
     }
@@ -124,7 +124,7 @@ fn is_due(known: usize) -> bool {
     known == MANY || known == 8 * MANY || known == 64 * MANY
 }
 
-/// Returns whether the scalar is data that takes long to hash.
+// Returns whether the scalar is data that takes long to hash.
 pub(crate) fn is_long_data(scalar: ScalarRef) -> bool
     ensures { result ≡ is_long (content_of scalar.entry) }
 {

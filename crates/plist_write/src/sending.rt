@@ -30,7 +30,7 @@ use plist_value::ScalarRef;
 use std::alloc::Global;
 use std::hash::BuildHasher;
 
-/// The most bytes of a data object that precede its content.
+// The most bytes of a data object that precede its content.
 const MOST_HEAD: u64 = 10;
 
 /// Sends the canonical file of the value that the file encodes, object after object, and returns
@@ -166,12 +166,12 @@ fn send_objects<W: Sink>(
     Ok(offsets)
 }
 
-/// Writes an object of `size` bytes. Long data goes to the sink without a copy.
-///
-/// # Errors
-///
-/// [`WriteFault::WriteFailed`] (51) if the sink fails, and [`WriteFault::OutOfMemory`] (60) if
-/// there is no memory for the object.
+// Writes an object of `size` bytes. Long data goes to the sink without a copy.
+//
+// # Errors
+//
+// [`WriteFault::WriteFailed`] (51) if the sink fails, and [`WriteFault::OutOfMemory`] (60) if
+// there is no memory for the object.
 pub(crate) fn send_object<W: Sink>(
     width: u8,
     object: &NewObject,

@@ -16,7 +16,7 @@ use plist_value::MAX_DEPTH;
 use std::alloc::{AllocError, Global};
 use std::hash::BuildHasher;
 
-/// Returns the objects of the canonical file of the value that the file encodes.
+// Returns the objects of the canonical file of the value that the file encodes.
 pub(crate) fn objects_of<'a, S: BuildHasher + Copy>(
     alloc: Global,
     hasher: S,

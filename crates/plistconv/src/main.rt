@@ -23,8 +23,8 @@ fn arguments(rt: &HostRuntime) -> io::Result<Vec<String>> {
     Ok(env::args(rt)?.collect(rt.alloc())?)
 }
 
-/// Runs the program on these arguments and returns its exit status. Prints a line if they could not
-/// be read, or if out of memory for a copy of their references.
+// Runs the program on these arguments and returns its exit status. Prints a line if they could not
+// be read, or if out of memory for a copy of their references.
 fn status<I: Read, O: Write>(
     rt: &HostRuntime,
     arguments: io::Result<Vec<String>>,
@@ -58,8 +58,8 @@ fn status<I: Read, O: Write>(
     }
 }
 
-/// Runs the program on these arguments and returns its exit status. Prints a line if out of memory
-/// before it begins.
+// Runs the program on these arguments and returns its exit status. Prints a line if out of memory
+// before it begins.
 fn obey<I: Read, O: Write>(
     rt: &HostRuntime,
     arguments: &[String],
@@ -79,7 +79,7 @@ fn obey<I: Read, O: Write>(
     }
 }
 
-/// Runs the program on these arguments and returns its exit status.
+// Runs the program on these arguments and returns its exit status.
 fn answer<I: Read, O: Write>(
     rt: &HostRuntime,
     arguments: &[String],
@@ -104,7 +104,7 @@ fn borrowed<'a>(alloc: Global, texts: &'a [String]) -> Result<Vec<&'a str>, Allo
     texts.iter().map(|text| text.as_str()).collect(alloc)
 }
 
-/// Returns the exit status of a run, or prints a line if it ran out of memory before it began.
+// Returns the exit status of a run, or prints a line if it ran out of memory before it began.
 fn ended<O: Write>(output: &mut O, ran: Result<u8, AllocError>) -> u8
     ensures ran { IfOk ran (λ status. result ≡ status) }
     ensures memory { IfErr ran (λ _. (failures : ℕ) × Prints (O.contents output.old)
@@ -116,7 +116,7 @@ fn ended<O: Write>(output: &mut O, ran: Result<u8, AllocError>) -> u8
     }
 }
 
-/// Prints the line and returns the exit status, or 4 if the line cannot be printed.
+// Prints the line and returns the exit status, or 4 if the line cannot be printed.
 fn refuse<O: Write>(output: &mut O, line: &str, status: u8) -> u8
     ensures { (failures : ℕ) × Prints (O.contents output.old) (O.contents output.new) 0 failures
         (record { text = line.now; status = status }) result }

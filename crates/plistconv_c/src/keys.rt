@@ -4,7 +4,7 @@ ghost use Rattle.plistconv_c.specs.Keys.{initial_of, keyed_by, no_key};
 
 use std::hash::{BuildHasher, DefaultHasher, Hasher};
 
-/// Builds hashers that have already read the key.
+// Builds hashers that have already read the key.
 #[derive(Clone, Copy)]
 pub(crate) struct KeyedHasher {
     initial: DefaultHasher,
@@ -20,7 +20,7 @@ impl BuildHasher for KeyedHasher {
     }
 }
 
-/// Returns the hash builder for the key, or `None` for sixteen zeros, which mean no key.
+// Returns the hash builder for the key, or `None` for sixteen zeros, which mean no key.
 pub(crate) fn keyed_hasher(key: &[u8; 16]) -> Option<KeyedHasher>
     ensures none { IfNone result (key.now ≡ no_key) }
     ensures keyed { IfSome result (λ builder. initial_of builder ≡ keyed_by key.now) }

@@ -3,12 +3,12 @@ use crate::host_tests::{holds, status_of};
 use std::fs;
 use std::test::Fail;
 
-/// The number 5 in eight bytes.
+// The number 5 in eight bytes.
 const LONG: &[u8] =
     b"bplist00\x13\0\0\0\0\0\0\0\x05\x08\0\0\0\0\0\0\x01\x01\0\0\0\0\0\0\0\x01\0\0\0\0\0\0\0\0\
       \0\0\0\0\0\0\0\x11";
 
-/// Its canonical file.
+// Its canonical file.
 const SHORT: &[u8] =
     b"bplist00\x10\x05\x08\0\0\0\0\0\0\x01\x01\0\0\0\0\0\0\0\x01\0\0\0\0\0\0\0\0\0\0\0\0\0\0\0\
       \x0a";

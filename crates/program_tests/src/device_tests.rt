@@ -12,7 +12,7 @@ use std::fs;
 use std::test::Fail;
 use test_files::Draft;
 
-/// The forms of one value: data of 5,000 bytes, which is longer than a take and than a piece.
+// The forms of one value: data of 5,000 bytes, which is longer than a take and than a piece.
 #[derive(Drop)]
 struct Forms {
     text: Vec<u8>,
@@ -65,7 +65,7 @@ fn forms_of_data(alloc: Global) -> Result<Forms, AllocError> {
     })
 }
 
-/// A call that loads or sends.
+// A call that loads or sends.
 #[derive(Clone, Copy)]
 enum Call {
     Load,
@@ -79,7 +79,7 @@ enum Call {
     Print,
 }
 
-/// What a call puts: its input, or its value in another form.
+// What a call puts: its input, or its value in another form.
 #[derive(Clone, Copy)]
 enum Put {
     Input,
@@ -184,7 +184,7 @@ fn calls_take_4096_bytes_and_never_flush(rt: HostRuntime) -> Result<(), Fail> {
     Ok(())
 }
 
-/// Runs, one after another.
+// Runs, one after another.
 const ROWS: [&str; 5] = [
     "convert binary1 strict.txt strict.out|0 ",
     "convert openstep strict.out strict.old|0 ",

@@ -7,7 +7,7 @@ use plist_convert::run_to_end;
 use std::fs;
 use std::test::Fail;
 
-/// The arguments, what the path `old` has afterwards, and the exit status.
+// The arguments, what the path `old` has afterwards, and the exit status.
 type Ending = (&'static str, &'static [u8], u8);
 
 const ENDINGS: [Ending; 7] = [
@@ -20,14 +20,14 @@ const ENDINGS: [Ending; 7] = [
     ("convert binary1 missing old", b"old", 4),
 ];
 
-/// The program that runs.
+// The program that runs.
 #[derive(Clone, Copy)]
 enum Running {
-    /// One that continues.
+    // One that continues.
     On,
-    /// One that ends.
+    // One that ends.
     ToEnd,
-    /// One that ends, on a system without random bytes whose files are strict.
+    // One that ends, on a system without random bytes whose files are strict.
     ToEndStrictly,
 }
 

@@ -6,7 +6,7 @@ use plist_value::FixedHasher;
 use std::alloc::{AllocError, Global};
 use std::test::Fail;
 
-/// Files with the names of options, and of what lines say.
+// Files with the names of options, and of what lines say.
 const FILES: [(&str, &[u8]); 4] = [
     ("-h", TABLE_TEXT),
     ("-x", UNSORTED),
@@ -34,7 +34,7 @@ fn ran(alloc: Global, words: &[&str], octets: &[u8]) -> Result<(u8, ListSink), A
     Ok((status, output))
 }
 
-/// Commands, the line that each prints, and how its explanation begins.
+// Commands, the line that each prints, and how its explanation begins.
 const PRINTED: [(&[&str], &str, &[u8]); 6] = [
     (&[], "-: refused 1 TooShort\n", b"1 TooShort: "),
     (
@@ -77,7 +77,7 @@ fn what_is_printed_is_explained(rt: HostRuntime) -> Result<(), Fail> {
     Ok(())
 }
 
-/// Words that are no lines: those with a dash are options.
+// Words that are no lines: those with a dash are options.
 #[test]
 fn other_words_are_options_or_name_nothing(rt: HostRuntime) -> Result<(), Fail> {
     let alloc = rt.alloc();

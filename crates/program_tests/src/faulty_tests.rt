@@ -41,7 +41,7 @@ fn is_answered(rt: &HostRuntime, host: &StrictHost, row: &str) -> Result<bool, F
     Ok(true)
 }
 
-/// A run of each command. Where two paths are given, they are different.
+// A run of each command. Where two paths are given, they are different.
 const COMMANDS: [&str; 13] = [
     "convert binary1 row2.txt old|0 ",
     "convert openstep row2.bin old|0 ",
@@ -58,7 +58,7 @@ const COMMANDS: [&str; 13] = [
     "--version|0 plistconv 0.3.0\n",
 ];
 
-/// Each path is opened once. The second time it would be missing.
+// Each path is opened once. The second time it would be missing.
 #[test]
 fn each_path_is_opened_once(rt: HostRuntime) -> Result<(), Fail> {
     let good = StrictHost::over(&rt);
@@ -76,7 +76,7 @@ fn each_path_is_opened_once(rt: HostRuntime) -> Result<(), Fail> {
     remove_files(&rt)
 }
 
-/// Errors of a host. No cause makes a device out of memory, and none is tried again.
+// Errors of a host. No cause makes a device out of memory, and none is tried again.
 const KINDS: [ErrorKind; 3] = [
     ErrorKind::OutOfMemory,
     ErrorKind::Interrupted,
@@ -113,7 +113,7 @@ fn a_read_that_fails_once_is_50(rt: HostRuntime) -> Result<(), Fail> {
     remove_files(&rt)
 }
 
-/// Conversions of which each write moves up to 10 bytes, and the output of each.
+// Conversions of which each write moves up to 10 bytes, and the output of each.
 const CONVERSIONS: [(&str, &[u8]); 2] = [
     ("convert binary1 row2.txt old", TABLE),
     ("convert openstep row2.bin old", WRITTEN_TEXT),
@@ -195,7 +195,7 @@ fn streams_that_fail_once(rt: HostRuntime) -> Result<(), Fail> {
     Ok(())
 }
 
-/// Where the system gives no random bytes, the key of the hasher is read from a file, whole.
+// Where the system gives no random bytes, the key of the hasher is read from a file, whole.
 #[test]
 fn the_key_is_read_whole(rt: HostRuntime) -> Result<(), Fail> {
     let given = Cell::new(0);

@@ -14,7 +14,7 @@ use std::fs;
 use std::hash::{BuildHasher, FoldHasher};
 use std::test::Fail;
 
-/// Builds the fixed hashers, and counts them.
+// Builds the fixed hashers, and counts them.
 #[derive(Clone, Copy)]
 struct Counting<'a> {
     fixed: FixedHasher,
@@ -34,7 +34,7 @@ impl BuildHasher for Counting<'_> {
     }
 }
 
-/// A call that takes a hash builder.
+// A call that takes a hash builder.
 #[derive(Clone, Copy, Debug)]
 enum Call {
     Canonical,

@@ -12,7 +12,7 @@ fn size_of(text: &str) -> (usize, usize) {
     (text.lines().count(), longest)
 }
 
-/// The arguments, how the help begins, and an example in it.
+// The arguments, how the help begins, and an example in it.
 const ROWS: [(&str, &str, &str); 7] = [
     (
         "--help",

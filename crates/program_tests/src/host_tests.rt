@@ -25,7 +25,7 @@ pub(crate) fn status_of(rt: &HostRuntime, words: &[&str], output: &mut Vec<u8>) 
     status_with(rt, words, &mut input, output)
 }
 
-/// The files of the rows.
+// The files of the rows.
 const FILES: [(&str, &[u8]); 11] = [
     ("row2.txt", TABLE_TEXT),
     ("row2.bin", TABLE),
@@ -40,7 +40,7 @@ const FILES: [(&str, &[u8]); 11] = [
     ("empty", b""),
 ];
 
-/// Runs, one after another. If the input is refused, OUT is unchanged, even if it is the input.
+// Runs, one after another. If the input is refused, OUT is unchanged, even if it is the input.
 const ROWS: [&str; 39] = [
     "convert binary1 row2.txt converted|0 ",
     "same row2.txt row2.bin|0 equal\n",
@@ -133,7 +133,7 @@ fn answers_the_worked_rows(rt: HostRuntime) -> Result<(), Fail> {
     Ok(())
 }
 
-/// Runs, and how their output begins.
+// Runs, and how their output begins.
 const OTHER_WORDS: [&str; 20] = [
     "-h|0 Converts Apple property lists",
     "lint -h|0 Checks whether a file is a",

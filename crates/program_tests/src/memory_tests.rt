@@ -29,7 +29,7 @@ fn ran<H: BuildHasher + Copy, D: Disk>(
     Ok((status, output))
 }
 
-/// Runs, one after another, over one disk.
+// Runs, one after another, over one disk.
 const RUNS: [&str; 8] = [
     "check in|1 broken C5 at object 0\n",
     "convert binary1 in out|0 ",
@@ -121,7 +121,7 @@ fn a_full_disk_takes_a_front(rt: HostRuntime) -> Result<(), Fail> {
     Ok(())
 }
 
-/// The bytes after the data, without the last: the offset table and the trailer.
+// The bytes after the data, without the last: the offset table and the trailer.
 const LONG_END: &[u8] = b"\0\x08\0\0\0\0\0\0\x02\x01\0\0\0\0\0\0\0\x01\
       \0\0\0\0\0\0\0\0\0\0\0\0\0\0\x13";
 

@@ -6,7 +6,7 @@ use std::test::Fail;
 use plist_convert::{Fault, canonicalise};
 use std::alloc::Global;
 
-/// Cache key for anything derived from a property list: the same for all its spellings.
+// Cache key for anything derived from a property list: the same for all its spellings.
 fn cache_key(alloc: Global, octets: &[u8]) -> Result<Vec<u8>, Fault> {
     canonicalise(alloc, octets)
 }

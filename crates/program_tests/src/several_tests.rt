@@ -7,7 +7,7 @@ use plist_value::FixedHasher;
 use std::alloc::{AllocError, Global};
 use std::test::Fail;
 
-/// The files of the rows.
+// The files of the rows.
 const FILES: [(&str, &[u8]); 6] = [
     ("a.bin", TABLE),
     ("a.txt", TABLE_TEXT),
@@ -17,7 +17,7 @@ const FILES: [(&str, &[u8]); 6] = [
     ("-x", TABLE),
 ];
 
-/// Each path has its line, in the order given, and the status is the greatest.
+// Each path has its line, in the order given, and the status is the greatest.
 const ROWS: [&str; 23] = [
     "lint a.bin|0 a.bin: OK\n",
     "lint a.bin a.txt|0 a.bin: OK\na.txt: OK\n",
@@ -88,7 +88,7 @@ fn each_path_has_its_line(rt: HostRuntime) -> Result<(), Fail> {
     Ok(())
 }
 
-/// A path and a dash without `--` before it are usage errors.
+// A path and a dash without `--` before it are usage errors.
 #[test]
 fn a_path_is_required(rt: HostRuntime) -> Result<(), Fail> {
     let alloc = rt.alloc();
@@ -111,7 +111,7 @@ fn a_path_is_required(rt: HostRuntime) -> Result<(), Fail> {
     Ok(())
 }
 
-/// A line that is cut off ends the run: the file that is missing is not looked for.
+// A line that is cut off ends the run: the file that is missing is not looked for.
 #[test]
 fn a_line_that_is_cut_off_ends_the_run(rt: HostRuntime) -> Result<(), Fail> {
     let alloc = rt.alloc();

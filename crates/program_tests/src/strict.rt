@@ -7,29 +7,29 @@ use std::fs::{Files, Metadata, OpenFile, OpenOptions};
 use std::io::{self, ErrorKind, Read, Seek, SeekFrom, Write};
 use std::random::RandomSource;
 
-/// The number of bytes that a take asks for.
+// The number of bytes that a take asks for.
 pub(crate) const TAKE: usize = 4096;
 
-/// How the reads and writes of a device end.
+// How the reads and writes of a device end.
 #[derive(Clone, Copy)]
 pub(crate) struct Transfers<'a> {
-    /// The most bytes that one of them moves.
+    // The most bytes that one of them moves.
     pub(crate) most: usize,
-    /// The number of the one that fails, counted from 1, and how.
+    // The number of the one that fails, counted from 1, and how.
     pub(crate) failing: Option<(usize, ErrorKind)>,
-    /// Counts the bytes that were read.
+    // Counts the bytes that were read.
     pub(crate) given: Option<&'a Cell<usize>>,
 }
 
 impl Transfers<'_> {
-    /// Transfers that all end well.
+    // Transfers that all end well.
     pub(crate) const GOOD: Transfers<'static> = Transfers {
         most: usize::MAX,
         failing: None,
         given: None,
     };
 
-    /// Returns transfers of which one fails.
+    // Returns transfers of which one fails.
     pub(crate) fn failing(number: usize, kind: ErrorKind) -> Transfers<'static> {
         Transfers {
             most: usize::MAX,
@@ -39,8 +39,8 @@ impl Transfers<'_> {
     }
 }
 
-/// A device whose reads fail if they ask for more than [`TAKE`] bytes, and that is never to be
-/// flushed or synchronised: it fails then, and has one more byte.
+// A device whose reads fail if they ask for more than [`TAKE`] bytes, and that is never to be
+// flushed or synchronised: it fails then, and has one more byte.
 #[derive(Drop)]
 pub(crate) struct Strict<'a, D> {
     pub(crate) device: D,
@@ -50,12 +50,12 @@ pub(crate) struct Strict<'a, D> {
 }
 
 impl<'a, D> Strict<'a, D> {
-    /// Returns the device, from which nothing was read.
+    // Returns the device, from which nothing was read.
     pub(crate) fn over(device: D) -> Strict<'a, D> {
         Strict::with(device, Transfers::GOOD)
     }
 
-    /// Returns the device with these transfers.
+    // Returns the device with these transfers.
     pub(crate) fn with(device: D, transfers: Transfers<'a>) -> Strict<'a, D> {
         Strict {
             device,
@@ -132,22 +132,22 @@ impl<D: OpenFile> OpenFile for Strict<'_, D> {
     }
 }
 
-/// The files of the host, each of them strict, without a source of random bytes.
+// The files of the host, each of them strict, without a source of random bytes.
 #[derive(Drop)]
 pub(crate) struct StrictHost<'a> {
     pub(crate) rt: &'a HostRuntime,
-    /// The transfers of files that are opened to be read, and of those that are created.
+    // The transfers of files that are opened to be read, and of those that are created.
     pub(crate) read: Transfers<'a>,
     pub(crate) written: Transfers<'a>,
-    /// How each attempt to open a file to be read fails, or to create one.
+    // How each attempt to open a file to be read fails, or to create one.
     pub(crate) unopened: Option<ErrorKind>,
     pub(crate) uncreated: Option<ErrorKind>,
-    /// Whether a relative path is removed once it is open to be read.
+    // Whether a relative path is removed once it is open to be read.
     pub(crate) removes: bool,
 }
 
 impl<'a> StrictHost<'a> {
-    /// Returns a host whose files do not fail.
+    // Returns a host whose files do not fail.
     pub(crate) fn over(rt: &'a HostRuntime) -> StrictHost<'a> {
         StrictHost {
             rt,

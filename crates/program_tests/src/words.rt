@@ -1,7 +1,7 @@
 //! Rows of arguments: `ARGUMENTS|STATUS PRINTED`.
 use std::alloc::{AllocError, Global};
 
-/// Returns the arguments of a row, which single spaces separate, after the name of the program.
+// Returns the arguments of a row, which single spaces separate, after the name of the program.
 pub(crate) fn words_of(alloc: Global, row: &str) -> Result<Vec<&str>, AllocError> {
     let (line, _) = row.split_once('|').unwrap_or((row, ""));
     let mut words = Vec::new(alloc);
@@ -12,7 +12,7 @@ pub(crate) fn words_of(alloc: Global, row: &str) -> Result<Vec<&str>, AllocError
     Ok(words)
 }
 
-/// Returns what a row expects to be printed, or `None` if it expects another status.
+// Returns what a row expects to be printed, or `None` if it expects another status.
 pub(crate) fn printed_of(row: &str, status: u8) -> Option<&[u8]> {
     let (_, answer) = row.split_once('|')?;
     let (code, printed) = answer.split_once(' ')?;

@@ -19,7 +19,7 @@ use std::fmt::Write;
 // The maximum number of bytes of a printed text.
 const ROOM: usize = 65_536;
 
-/// Returns the line that answers the row.
+// Returns the line that answers the row.
 pub(crate) fn answer(alloc: Global, row: &Row) -> Result<String, AllocError> {
     let octets = row.octets();
     match row.question {

@@ -7,12 +7,12 @@ use std::alloc::{AllocError, Global};
 
 const ESCAPED: AsciiSet = ascii_set!(CONTROLS.add(b'%'));
 
-/// Encodes the bytes for an answer.
+// Encodes the bytes for an answer.
 pub(crate) fn shown(octets: &[u8]) -> PercentEncode<'_> {
     percent_encode(octets, ESCAPED)
 }
 
-/// Decodes the bytes of a row.
+// Decodes the bytes of a row.
 pub(crate) fn spelled(alloc: Global, text: &str) -> Result<Vec<u8>, AllocError> {
     let mut octets = Vec::new(alloc);
     percent_decode(text.as_bytes()).append_to(&mut octets)?;

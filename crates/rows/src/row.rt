@@ -3,25 +3,25 @@ use crate::octets::spelled;
 use std::alloc::{AllocError, Global};
 use test_files::{Draft, file};
 
-/// What is asked of an input.
+// What is asked of an input.
 #[derive(Clone, Copy, Debug)]
 pub(crate) enum Question {
-    /// Its value: the canonical file and the OpenStep text. For a binary file also whether it is
-    /// canonical.
+    // Its value: the canonical file and the OpenStep text. For a binary file also whether it is
+    // canonical.
     Value,
-    /// The printed text of its value.
+    // The printed text of its value.
     Print,
-    /// The trailer and the objects of a binary file.
+    // The trailer and the objects of a binary file.
     Layout,
-    /// The tokens of a text.
+    // The tokens of a text.
     Tokens,
-    /// How each prefix of it is refused.
+    // How each prefix of it is refused.
     Fronts,
-    /// The refusal or rule that is explained for it.
+    // The refusal or rule that is explained for it.
     Topic,
-    /// The lines of `lint` for several inputs, and the status.
+    // The lines of `lint` for several inputs, and the status.
     Lint,
-    /// The lines of `check` for several inputs, and the status.
+    // The lines of `check` for several inputs, and the status.
     Check,
 }
 
@@ -41,7 +41,7 @@ impl Question {
     }
 }
 
-/// A line of the rows.
+// A line of the rows.
 #[derive(Drop)]
 pub(crate) struct Row<'a> {
     pub(crate) name: &'a str,
@@ -50,15 +50,15 @@ pub(crate) struct Row<'a> {
 }
 
 impl<'a> Row<'a> {
-    /// Parses a line `NAME QUESTION FORM OCTETS`, or returns `None` if it is not a row. The forms:
-    ///
-    /// - `text OCTETS`: these bytes;
-    /// - `file WIDTH OBJECT ..`: the binary file of these objects, with references of `WIDTH`
-    ///   bytes;
-    /// - `laid WIDTH OBJECTS ENTRIES`: the binary file of these bytes of objects and these entries
-    ///   of the offset table, one byte each.
-    ///
-    /// The inputs of `lint` and `check` are separated by `&`.
+    // Parses a line `NAME QUESTION FORM OCTETS`, or returns `None` if it is not a row. The forms:
+    //
+    // - `text OCTETS`: these bytes;
+    // - `file WIDTH OBJECT ..`: the binary file of these objects, with references of `WIDTH`
+    //   bytes;
+    // - `laid WIDTH OBJECTS ENTRIES`: the binary file of these bytes of objects and these entries
+    //   of the offset table, one byte each.
+    //
+    // The inputs of `lint` and `check` are separated by `&`.
     pub(crate) fn read(alloc: Global, line: &'a str) -> Result<Option<Row<'a>>, AllocError> {
         let Some((name, rest)) = line.split_once(' ') else {
             return Ok(None);
@@ -79,7 +79,7 @@ impl<'a> Row<'a> {
         }))
     }
 
-    /// Returns the first input.
+    // Returns the first input.
     pub(crate) fn octets(&self) -> &[u8] {
         match self.inputs.first() {
             Some(octets) => octets.as_slice(),

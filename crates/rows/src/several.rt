@@ -9,7 +9,7 @@ use std::alloc::{AllocError, Global};
 // The maximum number of bytes of the lines, and of a piece of them.
 const ROOM: usize = 4096;
 
-/// Returns the line for a command on the inputs as files: what it prints, and the exit status.
+// Returns the line for a command on the inputs as files: what it prints, and the exit status.
 pub(crate) fn answer_several(alloc: Global, word: &str, row: &Row) -> Result<String, AllocError> {
     let mut files = MemoryFiles::new(alloc);
     let mut words = Vec::new(alloc);

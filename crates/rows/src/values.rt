@@ -13,8 +13,8 @@ use std::fmt::Write;
 // The maximum number of bytes of a written text.
 const ROOM: usize = 65_536;
 
-/// Returns the line for the value, or for the refusal. If the calls of the library disagree, the
-/// line says so.
+// Returns the line for the value, or for the refusal. If the calls of the library disagree, the
+// line says so.
 pub(crate) fn answer_value(alloc: Global, name: &str, octets: &[u8]) -> Result<String, AllocError> {
     let mut said = match read_any(alloc, octets) {
         Ok(value) => {
