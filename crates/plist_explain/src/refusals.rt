@@ -32,10 +32,12 @@ a file is, and to write the canonical file of a text:
 The last 32 bytes, the trailer, say how many objects the file has, which one is
 the top, and where the table of their offsets is. Here this does not fit the
 length of the file, for example because bytes are missing at the end or were
-added there. Fetch the file again; a transfer as text damages it. So does git
-on checkout if .gitattributes has `*.plist text` or eol=crlf, which change line
-ends. Write `*.plist -text` there, and check the file out again:
-  rm FILE && git checkout FILE",
+added there. Fetch the file again; a transfer as text damages it. So does git if
+.gitattributes has `*.plist text` or eol=crlf, which change line ends. Write
+`*.plist -text` there, and check the file out again:
+  rm FILE && git checkout FILE
+If this is refused too, git changed the file when it was added, and its blob is
+damaged: take the file from where it was made, and add it again.",
     ),
     (
         Subject::Refusal(Refusal::BadOffset),
@@ -131,11 +133,12 @@ program that writes the file, turn its keys into strings: \"1\".",
         "\
 As in { a = 1; b = 2; a = 3; }: programs differ on which value counts, so leave
 only one. In a text `plistconv-where FILE OFFSET` shows the line of the second
-key. For a binary file this prints each key that is there again:
-  python3 -c 'import plistlib, sys
-  class Keys(dict):
-    __setitem__ = lambda d, k, v: print(k) if k in d else d.update({k: v})
-  plistlib.load(open(sys.argv[1], \"rb\"), dict_type=Keys)' FILE",
+key; in a binary file `plistconv-where FILE object NUMBER` names a key that is
+there again. This prints each of them in a binary file:
+python3 -c 'import plistlib, sys
+class Keys(dict):
+  __setitem__ = lambda d, k, v: print(k) if k in d else d.update({k: v})
+plistlib.load(open(sys.argv[1], \"rb\"), dict_type=Keys)' FILE",
     ),
     (
         Subject::Refusal(Refusal::Cycle),
