@@ -370,12 +370,11 @@ def same(first: Octets, second: Octets, key: Optional[Octets] = None) -> bool:
     return bool(_answered(_library.plistconv_same, given, ctypes.c_uint8(0)).value)
 
 
-def lint(octets: Octets) -> Optional[Refused]:
-    """Returns why a property list is refused, or None if it is accepted."""
+def lint(octets: Octets) -> None:
+    """Returns if a property list is accepted, and raises `Refused` if it is not."""
     octets, refusal = _octets(octets), _Refusal()
-    if _call(_library.plistconv_lint, octets, len(octets), ctypes.byref(refusal)) == 0:
-        return None
-    return _refused(refusal)
+    if _call(_library.plistconv_lint, octets, len(octets), ctypes.byref(refusal)) != 0:
+        raise _refused(refusal)
 
 
 def check(octets: Octets, key: Optional[Octets] = None) -> Finding:
