@@ -7,7 +7,7 @@ _plistconv_topics='
     C1 C2 C3 C4 C5 C6 C7
 '
 _plistconv() {
-    local word=${COMP_WORDS[COMP_CWORD]} commands='convert same lint check print explain' offered=
+    local word=${COMP_WORDS[COMP_CWORD]} commands='convert same lint check print explain' name offered=
     COMPREPLY=()
     case $COMP_CWORD-${COMP_WORDS[1]} in
         1-*) offered="$commands help --help --version" ;;
@@ -17,8 +17,10 @@ _plistconv() {
         *-explain | *-help) ;;
         *)
             compopt -o filenames
-            mapfile -t COMPREPLY < <(compgen -f -- "$word")
-            COMPREPLY=("${COMPREPLY[@]/#-/./-}") # so that no name is taken for an option
+            while IFS= read -r name; do
+                # The parts of a name with a line end are no files. A dash would begin an option.
+                [[ $name != ["~$"]* && ! -e $name && ! -L $name ]] || COMPREPLY+=("${name/#-/./-}")
+            done < <(compgen -f -- "$word")
             [[ $word != -* ]] || offered=--help
             [[ $word-${COMP_WORDS[1]} != -*-check ]] || offered+=' --with-filename'
             ;;
