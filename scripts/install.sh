@@ -80,14 +80,17 @@ program() {
 below_prefix() { case $1 in "$PREFIX"/*) echo "\${prefix}/${1#"$PREFIX"/}" ;; *) echo "$1" ;; esac; } # FOLDER
 
 library() {
+    # pkgconf escapes blanks in pcfiledir itself, and removes quotes around a value; blanks in other prefixes need quotes.
+    local value='' flag='"'
+    [[ $PC_PREFIX != *pcfiledir* ]] || { value='"' flag=''; }
     put 644 include/plistconv.h "$INCLUDEDIR/plistconv.h"
     put 644 libplistconv.a "$LIBDIR/libplistconv.a"
     put 644 libplistconv.so "$LIBDIR/libplistconv.so.1"
     link libplistconv.so.1 "$LIBDIR/libplistconv.so"
-    print "$LIBDIR/pkgconfig/plistconv.pc" "prefix=$PC_PREFIX" "libdir=$(below_prefix "$LIBDIR")" \
-        "includedir=$(below_prefix "$INCLUDEDIR")" '' 'Name: plistconv' \
+    print "$LIBDIR/pkgconfig/plistconv.pc" "prefix=$PC_PREFIX" "libdir=$value$(below_prefix "$LIBDIR")$value" \
+        "includedir=$value$(below_prefix "$INCLUDEDIR")$value" '' 'Name: plistconv' \
         'Description: Property lists in their canonical form, proved' "Version: $VERSION" \
-        'Libs: -L"${libdir}" -lplistconv' 'Cflags: -I"${includedir}"'
+        "Libs: -L$flag\${libdir}$flag -lplistconv" "Cflags: -I$flag\${includedir}$flag"
     notices
 }
 

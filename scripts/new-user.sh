@@ -157,7 +157,22 @@ if wants dist && has objdump binutils 'the tar file'; then
     if has python3 python3 'the commands'; then
         mkdir "$work/moved here" && mv "$work/unpacked" "$work/moved here/"
         printf '{a=b;}' | env -u PLISTCONV "$work/moved here/unpacked/bin/plistconv-digest" -
+    else
+        mkdir "$work/moved here" && mv "$work/unpacked" "$work/moved here/"
     fi
+    if has pkg-config pkgconf 'the file for pkg-config of the tar file'; then
+        flags=()
+        eval "flags=($(PKG_CONFIG_PATH="$work/moved here/unpacked/lib/pkgconfig" pkg-config --cflags --libs plistconv))"
+        [ -f "${flags[0]#-I}/plistconv.h" ] && [ -f "${flags[1]#-L}/libplistconv.so" ] || fail "pkg-config prints ${flags[*]}"
+    fi
+    # The commands of INSTALL, without ldconfig, for another folder than /usr/local.
+    commands=$(sed -n "s/^    //; s/ && ldconfig\$//; s|/usr/local|'$work/local'|; /^cp -R/p; /^find/p" "$work/moved here/unpacked/INSTALL")
+    mkdir "$work/local"
+    (cd "$work/moved here/unpacked" && eval "$(head -n 1 <<< "$commands")")
+    "$work/local/bin/plistconv" --version
+    (cd "$work/moved here/unpacked" && eval "$(tail -n +2 <<< "$commands")")
+    left=$(find "$work/local" ! -type d -o -name 'plistconv*')
+    [ -z "$left" ] || fail "INSTALL's commands leave $left"
     [ "$(ls -A "$work/a new user")" = plistconv ] || fail 'make dist writes outside of the checkout'
     tried=1
 fi
