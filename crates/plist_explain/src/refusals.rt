@@ -32,8 +32,8 @@ a file is, and to write the canonical file of a text:
 The last 32 bytes, the trailer, say how many objects the file has, which one is
 the top, and where the table of their offsets is. Here this does not fit the
 length of the file, for example because bytes are missing at the end or were
-added there. Fetch the file again; a transfer as text damages it. So does git if
-.gitattributes has `*.plist text` or eol=crlf, which change line ends. Write
+added there. Fetch the file again; a transfer as text damages it. So does git
+if .gitattributes has `*.plist text` or eol=crlf, which change line ends. Write
 `*.plist -text` there, and check the file out again:
   rm FILE && git checkout FILE
 If this is refused too, git changed the file when it was added, and its blob is
