@@ -18,16 +18,15 @@ NAMES = {
     0x23: "a real of 8 bytes",
     0x33: "a date",
 }
-COUNTED = (
-    {  # by the high half of the marker: the words, and the bytes of a unit, or 0 for references
-        0x4: ("data of", "byte", 1),
-        0x5: ("a string of", "ASCII character", 1),
-        0x6: ("a string of", "UTF-16 unit", 2),
-        0xA: ("an array of", "item", 0),
-        0xC: ("a set of", "item", 0),
-        0xD: ("a dictionary of", "pair", 0),
-    }
-)
+# By the high half of the marker: the words, and the bytes of a unit, or 0 for references.
+COUNTED = {
+    0x4: ("data of", "byte", 1),
+    0x5: ("a string of", "ASCII character", 1),
+    0x6: ("a string of", "UTF-16 unit", 2),
+    0xA: ("an array of", "item", 0),
+    0xC: ("a set of", "item", 0),
+    0xD: ("a dictionary of", "pair", 0),
+}
 TABLE = 0xD
 FORMS = {1: "B", 2: "H", 4: "I", 8: "Q"}  # of references, by width
 CONTAINERS = (0xA, 0xC, TABLE)
@@ -68,12 +67,7 @@ class Object:
 
     def is_known(self) -> bool:
         """Returns whether the format has the marker."""
-        return (
-            self.marker in NAMES
-            or 0x10 <= self.marker <= 0x14
-            or self.kind in COUNTED
-            or self.kind == 8
-        )
+        return self.marker in (*NAMES, *range(0x10, 0x15)) or self.kind in (*COUNTED, 8)
 
     def words(self) -> str:
         """Returns what the marker says, in words."""
@@ -119,11 +113,9 @@ class Binary:
         """Returns an object, or `None` if there is none of this number or it
         begins past the end."""
         begin = self.begin(number)
-        return (
-            None
-            if begin is None or begin >= len(self.octets)
-            else Object(self.octets, begin, self.width)
-        )
+        if begin is None or begin >= len(self.octets):
+            return None
+        return Object(self.octets, begin, self.width)
 
     def references(self, found: Object) -> list[int]:
         """Returns the numbers in a container, of a dictionary the keys first, as far as
@@ -134,10 +126,8 @@ class Binary:
         many = len(octets) // self.width
         if self.width in FORMS:
             return list(struct.unpack_from(f">{many}{FORMS[self.width]}", octets))
-        return [
-            number_of(octets[at : at + self.width])
-            for at in range(0, many * self.width, self.width)
-        ]
+        starts = range(0, many * self.width, self.width)
+        return [number_of(octets[at : at + self.width]) for at in starts]
 
     def parents(self, wanted: int) -> dict[int, tuple[int, int]] | None:
         """Returns for each object that was reached from the top its container, and its place there,
@@ -189,17 +179,40 @@ class Binary:
     def key_step(self, key: Object | None, pair: int) -> str:
         """Returns the step to the value of a key: its name, or the number of the
         pair if it has none."""
-        if key is None or key.kind not in (0x5, 0x6) or key.count is None:
+        text = self.text(key, 4 * LONGEST)
+        if text is None:
             return f"{{{pair}}}"
-        name = self.octets[key.start : min(key.end, key.start + 4 * LONGEST)]
-        text = name.decode("latin-1") if key.kind == 0x5 else name.decode("utf-16-be", "replace")
         text = text if len(text) <= LONGEST else text[:LONGEST] + ".."
         return f".{text}" if text.isidentifier() else f"[{json.dumps(text, ensure_ascii=False)}]"
 
+    def text(self, key: Object | None, most: int) -> str | None:
+        """Returns the text in the first bytes of a string, or `None` for another object."""
+        if key is None or key.kind not in (0x5, 0x6) or key.count is None:
+            return None
+        name = self.octets[key.start : min(key.end, key.start + most)]
+        if key.kind == 0x5:
+            return name.decode("latin-1")
+        return name[: len(name) & ~1].decode("utf-16-be", "surrogatepass")
 
-def lines(octets: bytes, number: int) -> tuple[str, str]:
-    """Returns where an object begins with what its marker says, and a path to it. Raises `Refused`
-    if the file does not say where it begins."""
+    def repeated(self, found: Object) -> list[str]:
+        """Returns a line with a key that a dictionary has again, if there is one."""
+        pairs: dict[str, int] = {}
+        left = MOST  # Many keys may share long content.
+        for pair, number in enumerate(self.references(found)[: found.count]):
+            key = self.object(number)
+            text = self.text(key, left)
+            left -= 2 * len(text or "")
+            if text in pairs and left > 0:
+                step = self.key_step(key, pair)
+                return [f"the pairs {pairs[text]} and {pair} have the same key: {step}"]
+            if text is not None:
+                pairs[text] = pair
+        return []
+
+
+def lines(octets: bytes, number: int) -> list[str]:
+    """Returns where an object begins with what its marker says, a path to it, and a key that it
+    has again. Raises `Refused` if the file does not say where it begins."""
     binary = Binary(octets)
     begin = binary.begin(number)
     if begin is None:
@@ -213,4 +226,5 @@ def lines(octets: bytes, number: int) -> tuple[str, str]:
         where += f"; the objects are from byte 8 to {binary.table - 1}"
     elif found.end > binary.table:
         where += f"; it reaches past byte {binary.table - 1}, the last before the offset table"
-    return where, binary.path(number)
+    more = binary.repeated(found) if found is not None and found.kind == TABLE else []
+    return [where, binary.path(number), *more]

@@ -1,6 +1,7 @@
 """Tests plistconv-where."""
 from __future__ import annotations
 
+import re
 import unittest
 
 from testing import PROGRAM, TEXT, Case
@@ -147,6 +148,25 @@ class Objects(Case):
         ):
             self.finds(binary(octets), 0, f"8: {octets[0]:02x}, {words}", "root")
 
+    def test_key_that_a_dictionary_has_twice_is_named(self):
+        for octets, pairs, key in (
+            (binary(b"\xd2\1\1\2\3", b"Qa", b"\x09", b"\x08"), "0 and 1", ".a"),
+            (
+                binary(b"\xd3\1\2\3\4\4\4", b"Sa b", b"Qb", b"\x63\0a\0 \0b", b"\x09"),
+                "0 and 2",
+                '["a b"]',
+            ),
+        ):
+            self.put("f", octets)
+            line = self.call([PROGRAM, "lint", "f"], 2).stdout.decode()
+            self.assertIn("refused 14 DuplicateKey at object 0", line)
+            printed = self.tool("where", "f", *line.split()[-2:]).stdout.decode()
+            said = f"\nroot\nthe pairs {pairs} have the same key: {key}\n"
+            self.assertEqual(printed[printed.index("\n") :], said)
+            explained = self.call([PROGRAM, "explain", "14"]).stdout.decode()
+            command = re.search(r"(?ms)^python3 -c .* FILE$", explained)[0].replace(" FILE", " f")
+            self.assertIn(self.call(["sh", "-c", command]).stdout.decode().strip(), key)
+
     def test_cycles_and_shared_objects_end(self):
         cycle = binary(b"\xa2\1\2", b"\xa2\0\1", b"\xd1\3\0", b"Qk", b"\x09")
         self.finds(cycle, 2, "14: d1, a dictionary of 1 pair", "root[1]")
@@ -228,6 +248,19 @@ class Objects(Case):
             )
             self.put("f", b"bplist00" + body + table + trailer)
             self.tool("where", "f", "object", str(many - 1))
+
+    def test_long_keys_that_share_their_bytes_end(self):
+        many, long = 5_000, 1 << 21
+        keys = b"".join(number.to_bytes(2, "big") for number in range(1, many + 1))
+        head = b"bplist00\xdf\x11" + many.to_bytes(2, "big") + keys + bytes(2 * many)
+        begins = [len(head) + 6 * number for number in range(many)]
+        body = head + (b"\x6f\x12" + long.to_bytes(4, "big")) * many + bytes(2 * long)
+        table = b"".join(begin.to_bytes(4, "big") for begin in [8, *begins])
+        trailer = (
+            bytes(6) + b"\4\2" + b"".join(n.to_bytes(8, "big") for n in (many + 1, 0, len(body)))
+        )
+        self.put("f", body + table + trailer)
+        self.tool("where", "f", "object", "0")
 
 
 if __name__ == "__main__":
