@@ -6,13 +6,18 @@ import os
 import re
 import shlex
 import subprocess
+import tempfile
 from contextlib import contextmanager
-from typing import Callable, Iterator
+from typing import Callable, Iterable, Iterator
 
 import plistconv_tools as tools
 
 PLAIN = (b"100644", b"100755")  # modes of regular files, not of links and submodules
-ATTRIBUTES = ("plistconv", "text", "crlf", "eol")
+ENCODING = "working-tree-encoding"
+ATTRIBUTES = ("plistconv", "text", "crlf", "eol", "ident", ENCODING)
+CHANGING = {"text": ("set", "input"), "crlf": ("set", "input"), "eol": ("lf", "crlf")}
+# With these git reads attributes from info/attributes and core.attributesFile alone.
+NO_INDEX = {"GIT_INDEX_FILE": "/nonexistent/index", "GIT_ATTR_NOSYSTEM": "1"}
 
 
 class Git:
@@ -20,52 +25,54 @@ class Git:
     keep their meaning."""
 
     def __init__(self) -> None:
-        self.environment = {
-            name: value for name, value in os.environ.items() if not name.endswith("_PATHSPECS")
-        }
-        self.top = self.call("rev-parse", "--show-cdup")[
-            :-1
-        ]  # the way to the top folder, which is empty there
+        kept = {name: os.environ[name] for name in os.environ if not name.endswith("_PATHSPECS")}
+        self.environment = {**kept, "GIT_LITERAL_PATHSPECS": "1"}
+        self.is_bare = self.call("rev-parse", "--is-bare-repository") == b"true\n"
+        # The way to the top folder, which is empty there.
+        self.top = b"" if self.is_bare else self.call("rev-parse", "--show-cdup")[:-1]
 
-    def call(self, *words: str, given: bytes = b"", good: tuple[int, ...] = (0,)) -> bytes:
-        """Returns the output of git. Its error messages go to standard error."""
+    def call(self, *words: str, given: bytes = b"", also: int = 0, has_index: bool = True) -> bytes:
+        """Returns the output of git, whose status is 0 or `also`. Its error messages go to standard
+        error."""
+        variables = {**self.environment, **({} if has_index else NO_INDEX)}
         try:
             run = subprocess.run(
-                ["git", *words],
-                input=given,
-                stdout=subprocess.PIPE,
-                env=self.environment,
-                check=False,
+                ["git", *words], input=given, stdout=subprocess.PIPE, env=variables, check=False
             )
         except OSError as fault:
             raise tools.Trouble(f"git cannot be run: {tools.reason(fault)}") from None
-        if run.returncode not in good:
-            raise tools.Trouble(f"git {words[0]} ended with status {run.returncode}")
+        if run.returncode not in (0, also):
+            command = words[2 if words[0] == "-c" else 0]
+            raise tools.Trouble(f"git {command} ended with status {run.returncode}")
         return run.stdout
+
+    def fields(self, *words: str) -> list[bytes]:
+        """Returns the output of git, of which each part ends with a zero byte."""
+        return self.call(*words).split(b"\0")[:-1]
+
+    def read_head(self) -> None:
+        """Gives a bare repository, which has no index, that of HEAD until the command ends."""
+        self.folder = tempfile.TemporaryDirectory()
+        self.environment["GIT_INDEX_FILE"] = os.path.join(self.folder.name, "index")
+        self.call("read-tree", "HEAD")
 
     def path(self, name: bytes) -> bytes:
         """Returns the path of a file of the work tree from the current folder."""
         return os.path.join(self.top, name)
 
-    def files(self, tree: str) -> dict[bytes, bytes]:
-        """Returns the regular files of a tree, with the names of their blobs."""
-        entries = self.call("ls-tree", "-r", "-z", "--full-tree", tree).split(b"\0")[:-1]
+    def files(self, tree: str, *names: str) -> dict[bytes, bytes]:
+        """Returns the regular files of a tree, or those of these names, with the names of their
+        blobs."""
+        entries = self.fields("ls-tree", "-r", "-z", "--full-tree", "--", tree, *names)
         rows = (re.fullmatch(rb"(?s)(\d+) \w+ (\w+)\t(.*)", entry) for entry in entries)
         return {row[3]: row[2] for row in rows if row and row[1] in PLAIN}
 
     def changes(self, tree: str) -> dict[bytes, bytes | None]:
         """Returns the files of a tree that differ from HEAD, with the names of their blobs, or
         `None` for what is no regular file or was removed."""
-        head = (
-            self.call("rev-parse", "--verify", "--quiet", "HEAD^{tree}", good=(0, 1))
-            .decode()
-            .strip()
-        )
-        if not head:
-            head = self.call("hash-object", "-t", "tree", "--stdin").decode().strip()
-        fields = self.call("diff-tree", "-r", "-z", "--raw", "--no-renames", head, tree).split(
-            b"\0"
-        )[:-1]
+        head = self.call("rev-parse", "--verify", "--quiet", "HEAD^{tree}", also=1)
+        head = (head or self.call("hash-object", "-t", "tree", "--stdin")).strip()
+        fields = self.fields("diff-tree", "-r", "-z", "--no-renames", head.decode(), tree)
         rows = [(name, about.split(b" ")) for about, name in zip(fields[::2], fields[1::2])]
         return {name: about[3] if about[1] in PLAIN else None for name, about in rows}
 
@@ -73,11 +80,33 @@ class Git:
         """Returns the attributes of files by the .gitattributes of the index."""
         given = b"".join(self.path(name) + b"\0" for name in names)
         printed = self.call("check-attr", "--cached", "--stdin", "-z", *ATTRIBUTES, given=given)
-        values = [value.decode("utf-8", "replace") for value in printed.split(b"\0")[2::3]]
-        count = len(ATTRIBUTES)
-        return [
-            dict(zip(ATTRIBUTES, values[at : at + count])) for at in range(0, len(values), count)
-        ]
+        values = (value.decode("utf-8", "replace") for value in printed.split(b"\0")[2::3])
+        return [dict(zip(ATTRIBUTES, row)) for row in zip(*[values] * len(ATTRIBUTES))]
+
+    def source(self, tree: str, name: str, wanted: list[str]) -> tuple[str, str]:
+        """Returns which file gives a file one of the attributes, and the name of the latter from
+        there: info/attributes, or the deepest .gitattributes of the tree, or that at the top."""
+        if self.gives(b"", name, wanted):
+            info = os.fsdecode(self.call("rev-parse", "--git-path", "info/attributes")[:-1])
+            return os.path.relpath(info, os.fsdecode(self.top) or "."), name
+        parts = name.split("/")
+        paths = ["/".join([*parts[:depth], ".gitattributes"]) for depth in range(len(parts))]
+        blobs = self.files(tree, *paths)
+        found, macros = (paths[0], name), b""
+        for depth, path in enumerate(paths):
+            if os.fsencode(path) in blobs:
+                lines = self.call("cat-file", "blob", blobs[os.fsencode(path)].decode())
+                macros = macros or b"".join(re.findall(rb"(?m)^\[attr].*\n", lines))
+                below = "/".join(parts[depth:])
+                found = (path, below) if self.gives(macros + lines, below, wanted) else found
+        return found
+
+    def gives(self, lines: bytes, name: str, wanted: list[str]) -> bool:
+        """Returns whether info/attributes or these lines give a file one of the attributes."""
+        path = os.fsdecode(self.path(os.fsencode(name)))
+        words = "-c", "core.attributesFile=/dev/stdin", "check-attr", "--cached", "-z", *wanted
+        printed = self.call(*words, "--", path, given=lines, has_index=False)
+        return any(value != b"unspecified" for value in printed.split(b"\0")[2::3])
 
     @contextmanager
     def blobs(self) -> Iterator[Callable[[bytes], bytes]]:
@@ -102,14 +131,22 @@ class Git:
             yield read
 
 
-def changes_line_ends(attributes: dict[str, str]) -> bool:
-    """Returns whether git takes a file with these attributes for a text, whatever it contains."""
-    for name in ("text", "crlf"):
-        if attributes[name] in ("set", "input"):
-            return True
-        if attributes[name] in ("unset", "auto"):  # (git sees that a canonical file is binary)
-            return False
-    return attributes["eol"] in ("lf", "crlf")
+def changing(attributes: dict[str, str]) -> list[str]:
+    """Returns the attributes by which git changes the bytes of a file, whatever it contains."""
+    ends = [name for name in CHANGING if attributes[name] in (*CHANGING[name], "unset", "auto")]
+    found = [name for name in ends[:1] if attributes[name] in CHANGING[name]]
+    found += ["ident"] * (attributes["ident"] == "set")
+    is_utf8 = attributes[ENCODING].lower() in ("unspecified", "utf-8", "utf8")
+    return found if is_utf8 else [*found, ENCODING]
+
+
+def line_of(name: str, attributes: list[str]) -> str:
+    """Returns a line of .gitattributes that ends these attributes for a file, or for all property
+    lists if that is safe."""
+    more = {"ident": "-ident", ENCODING: f"!{ENCODING}"}
+    ended = [more[attribute] for attribute in attributes if attribute in more]
+    of = "*.plist" if name.endswith(".plist") and not ended else pattern(name)
+    return " ".join([of, "-text", *ended, "diff=plist"])
 
 
 def as_escapes(octets: bytes, ends: str) -> str:
@@ -125,11 +162,21 @@ def as_escapes(octets: bytes, ends: str) -> str:
 def word(name: str) -> str:
     """Returns a name as a word of a shell in one line: with line ends or bytes that are not
     UTF-8, of bash or zsh."""
-    return (
-        shlex.quote(name)
-        if name.isprintable()
-        else f"$'{as_escapes(os.fsencode(name), chr(92) + chr(39))}'"
-    )
+    name = "./-" if name == "-" else name  # (a dash is standard input)
+    escapes = as_escapes(os.fsencode(name), chr(92) + chr(39))
+    return shlex.quote(name) if name.isprintable() else f"$'{escapes}'"
+
+
+def staging(names: Iterable[str], option: str = "") -> str:
+    """Returns the end of a command: files are staged by it."""
+    return f" && git --literal-pathspecs add {option}-- {' '.join(map(word, names))}"
+
+
+def adding(line: str, path: str) -> str:
+    """Returns a command that adds a line to a file of attributes, whose last line may have no
+    end, and stages it unless it is that of the repository alone."""
+    command = f"printf '\\n%s\\n' {word(line)} >> {word(path)}"
+    return command + (staging([path]) if os.path.basename(path) == ".gitattributes" else "")
 
 
 def pattern(name: str) -> str:

@@ -25,12 +25,9 @@ class Lines(difflib.SequenceMatcher):
         """Returns the runs of equal lines, as difflib does, with an empty one at the end."""
         blocks: list[difflib.Match] = []
         for i, j in sorted(self.pairs()):
-            if (
-                blocks
-                and blocks[-1].a + blocks[-1].size == i
-                and blocks[-1].b + blocks[-1].size == j
-            ):
-                blocks[-1] = blocks[-1]._replace(size=blocks[-1].size + 1)
+            a, b, size = blocks[-1] if blocks else (0, 0, 0)
+            if size and (a + size, b + size) == (i, j):
+                blocks[-1] = difflib.Match(a, b, size + 1)
             else:
                 blocks.append(difflib.Match(i, j, 1))
         return [*blocks, difflib.Match(len(self.old), len(self.new), 0)]
@@ -68,9 +65,7 @@ class Lines(difflib.SequenceMatcher):
         old, new = Counter(self.old[first:last]), Counter(self.new[begin:end])
         places = {line: j for j, line in enumerate(self.new[begin:end], begin) if new[line] == 1}
         tails: list[int] = []  # for each length of a sequence, its least end
-        rows: list[
-            tuple[int, int, int]
-        ] = []  # the lines, each with its predecessor in the sequence
+        rows: list[tuple[int, int, int]] = []  # the lines, each with its predecessor
         ends: list[int] = []  # for each length, the last line of the sequence
         for i in range(first, last):
             j = places.get(self.old[i], -1)

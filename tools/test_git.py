@@ -3,12 +3,15 @@ with git and bundles."""
 from __future__ import annotations
 
 import os
+import plistlib
 import re
 import shutil
 import unittest
 
-from testing import ARCHIVE, OTHER, SAME, TEXT, TOP, TWICE, XML, Repository
+from testing import ARCHIVE, OTHER, PRINTED, SAME, TEXT, TOP, TWICE, XML, Repository
 
+# Equal to TEXT.
+UNSORTED = plistlib.dumps({"b": "a", "a": "b"}, fmt=plistlib.FMT_BINARY, sort_keys=False)
 REFUSED = (
     (ARCHIVE, "refused 9 UidObject at object 2"),
     (TWICE, "refused 14"),
@@ -21,10 +24,13 @@ class Install(Repository):
     """The hook is added to a repository."""
 
     def test_hook_is_made_once_and_works(self):
+        hooks = ".git/hooks/pre-commit", ".git/hooks/pre-merge-commit"
+        said = "".join(f"{hook} calls plistconv-staged\n" for hook in hooks).encode()
         for _ in range(2):
-            self.prints(b".git/hooks/pre-commit calls plistconv-staged\n", "staged", "--install")
-        hook = self.folder / ".git" / "hooks" / "pre-commit"
-        self.assertEqual(hook.read_bytes(), b"#!/bin/sh\nexec plistconv-staged\n")
+            self.prints(said, "staged", "--install")
+        for hook in hooks:
+            octets = (self.folder / hook).read_bytes()
+            self.assertEqual(octets, b"#!/bin/sh\nplistconv-staged || exit 1\n")
         self.put("a.plist", TEXT)
         self.git("add", "-A")
         self.assertIn("a.plist: an OpenStep text", self.commit(status=1))
@@ -40,12 +46,71 @@ class Install(Repository):
             hook.read_bytes(),
             b"#!/bin/sh\nplistconv-staged || exit 1\n# plistconv-staged\necho mine >&2\nexit 0",
         )
+        for lines in (
+            b"echo plistconv-staged",
+            b"plistconv-staged || true",
+            b"  plistconv-staged || exit 1 # never",
+            b"exec true\nplistconv-staged || exit 1",
+            b"exec plistconv-staged",
+            b": <<END\n  plistconv-staged || exit 1\nEND",
+        ):
+            hook.write_bytes(b"#!/bin/sh\n" + lines + b"\n")
+            for _ in range(2):
+                self.tool("staged", "--install")
+            wanted = b"#!/bin/sh\nplistconv-staged || exit 1\n" + lines + b"\n"
+            self.assertEqual(hook.read_bytes(), wanted)
+        wanted = b"#!/bin/sh\necho mine >&2\nplistconv-staged || exit 1\n"
+        hook.write_bytes(wanted)
+        self.tool("staged", "--install")
+        self.assertEqual(hook.read_bytes(), wanted)
+        hook.write_bytes(b"#!/bin/sh\nplistconv-staged || exit 1\necho mine >&2\nexit 0")
         self.assertEqual(hook.stat().st_mode & 0o777, 0o750)
         self.put("a.plist", TEXT)
         self.git("add", "-A")
         self.assertNotIn("mine", self.commit(status=1))
         self.put("a.plist", self.canonical(TEXT))
         self.assertIn("mine", self.commit("-a"))
+
+    def test_merges_are_checked(self):
+        self.hook()
+        self.put("a", b"")
+        self.git("add", "-A")
+        self.commit()
+        self.git("checkout", "-qb", "other")
+        self.put("a.plist", TEXT)
+        self.git("add", "-A")
+        self.commit("--no-verify")
+        self.git("checkout", "-q", "-")
+        self.put("b", b"")
+        self.git("add", "-A")
+        self.commit()
+        said = self.call(["git", "merge", "-q", "other"], 1).stderr.decode()
+        self.assertIn("a.plist: an OpenStep text", said)
+
+    def test_no_hook_where_git_runs_none(self):
+        self.git("config", "core.hooksPath", "")
+        self.refuses("core.hooksPath is empty, so git runs no hook", "staged", "--install")
+        self.assertEqual([name for name in self.left() if not name.startswith(".git")], [])
+        self.git("init", "-q", "--bare", "bare.git")
+        before = self.left()
+        bare = str(self.folder / "bare.git")
+        self.refuses("nobody commits in a bare repository", "staged", "--install", cwd=bare)
+        self.assertEqual(self.left(), before)
+
+    def test_folder_of_hooks_that_others_use_is_named(self):
+        inner = str(self.folder / "one" / "two")
+        self.git("init", "-q", inner)
+        own = "plistconv-staged: {}: other repositories that use this folder run the hooks too\n"
+        for path, is_shared in (
+            (str(self.folder / "hooks"), True),
+            ("../../hooks", True),
+            ("..", True),
+            ("hooks", False),
+            (f"{inner}/.git/other", False),
+        ):
+            self.git("config", "core.hooksPath", path, cwd=inner)
+            said = self.tool("staged", "--install", cwd=inner).stderr.decode()
+            self.assertEqual(said, own.format(path) if is_shared else "", path)
 
     def test_other_hooks_are_left(self):
         hook = self.folder / ".git" / "hooks" / "pre-commit"
@@ -57,19 +122,23 @@ class Install(Repository):
             (b"#!/bin/sh\r\nexit\r\n", 0o755, "is no shell script"),
         ):
             self.put(".git/hooks/pre-commit", octets).chmod(mode)
-            self.refuses(f".git/hooks/pre-commit: {why}", "staged", "--install")
+            merged = b".git/hooks/pre-merge-commit calls plistconv-staged\n"
+            self.refuses(f".git/hooks/pre-commit: {why}", "staged", "--install", printed=merged)
             self.refuses(
-                "left as it is. Have it call: plistconv-staged || exit 1", "staged", "--install"
+                "left as it is. Have it call: plistconv-staged || exit 1",
+                "staged",
+                "--install",
+                printed=merged,
             )
             self.assertEqual(hook.read_bytes(), octets)
         hook.unlink()
         os.symlink("../../hook", str(hook))
-        self.refuses("is a symbolic link", "staged", "--install")
+        self.refuses("is a symbolic link", "staged", "--install", printed=merged)
         self.put("hook", b"#!/bin/sh\n").chmod(0o755)
-        self.refuses("is a symbolic link", "staged", "--install")
+        self.refuses("is a symbolic link", "staged", "--install", printed=merged)
         hook.unlink()
         hook.mkdir()
-        self.refuses("is no regular file", "staged", "--install")
+        self.refuses("is no regular file", "staged", "--install", printed=merged)
 
     def test_work_trees_submodules_and_folders_of_hooks(self):
         self.put("sub/a", b"")
@@ -93,7 +162,8 @@ class Install(Repository):
         self.assertFalse(hook.exists())
         self.git("config", "core.hooksPath", "my hooks")
         self.prints(
-            b"../my hooks/pre-commit calls plistconv-staged\n",
+            b"../my hooks/pre-commit calls plistconv-staged\n"
+            b"../my hooks/pre-merge-commit calls plistconv-staged\n",
             "staged",
             "--install",
             cwd=str(self.folder / "sub"),
@@ -138,7 +208,7 @@ class Textconv(Repository):
 
     def test_lines_of_the_page_make_git_diff_readable(self):
         page = (TOP / "docs" / "RECIPES.md").read_text(encoding="utf-8")
-        lines = re.search(r"(?m)^    git config .*\n    echo .*$", page)[0]
+        lines = re.search(r"(?m)^    git config .*\n    printf .*$", page)[0]
         for shown in (page, self.tool("textconv", "--help").stdout.decode()):
             for line in lines.splitlines():
                 self.assertIn(line.strip() + "\n", shown)
@@ -162,6 +232,23 @@ class Textconv(Repository):
         for sign in "-+":
             self.assertIn(f"\n{sign}Binary file: refused 9 UidObject", shown)
         self.assertNotIn("\x80", shown)
+
+    def test_edits_of_the_writing_alone_show_in_a_last_line(self):
+        self.git("config", "diff.plist.textconv", "plistconv-textconv")
+        self.put(".gitattributes", b"*.plist diff=plist")
+        binary = self.canonical(TEXT)
+        sides = (TEXT, SAME), (XML, XML + b"<!-- -->"), (TEXT, binary), (binary, UNSORTED)
+        for old, new in sides:
+            self.put("a.plist", old)
+            self.git("add", "-A")
+            self.put("a.plist", new)
+            changed = re.findall(r"(?m)^[-+](\w.*)$", self.git("diff").decode())
+            for line in changed:
+                self.assertRegex(
+                    line, "^Bytes: SHA-256 [0-9a-f]{64}; if only this line differs, the "
+                )
+            self.assertEqual(len(changed), (old != binary) + (new != binary))
+        self.prints(PRINTED, "textconv", "-", input=binary)
 
 
 class Tree(Repository):

@@ -25,9 +25,9 @@ class Pages(Case):
         recipes, manual = page("docs/RECIPES.md"), page("man/plistconv-tools.1")
         lines = [
             re.search(f"(?m)^    ({start}.*)$", recipes)[1]
-            for start in ("git config", "echo", "plistconv-staged", "git ls-files")
+            for start in ("git config", "printf", "plistconv-staged", "git ls-files")
         ]
-        self.assertEqual(lines[1], "echo '*.plist -text diff=plist' >> .gitattributes")
+        self.assertEqual(lines[1], r"printf '\n%s\n' '*.plist -text diff=plist' >> .gitattributes")
         for line in lines:
             self.assertIn(f"\n{line}\n", manual)
         self.assertIn("\n.B *.plist -text diff=plist\n", page("man/plistconv.1"))

@@ -33,6 +33,17 @@ FAULTS = (
 class Staged(Repository):
     """The hook."""
 
+    def paste(self, said: str, starts: str = "so that|to mend") -> list[str]:
+        """Runs the commands in these lines of the hook, and returns them."""
+        found = re.findall(
+            rf"(?m)^plistconv-staged: (?:{starts}).* in the top folder.*?: (.*)$", said
+        )
+        if shutil.which("bash") is None:
+            self.skipTest("skipped: there is no bash")
+        for command in found:
+            self.call(["bash", "-ec", command])
+        return found
+
     def test_every_property_list_of_the_index_is_checked(self):
         self.put("good.plist", self.canonical(TEXT))
         self.git("add", "-A")
@@ -154,7 +165,7 @@ class Staged(Repository):
         calls = self.folder / "calls"
         run = self.tool("staged", status=1, env={**self.environment, "CALLS": str(calls)})
         self.assertEqual(run.stderr.count(b": an OpenStep text"), 40)
-        self.assertLess(len(calls.read_bytes().split()), 10)
+        self.assertLess(len(calls.read_bytes().split()), 11)
         self.assertEqual(calls.read_bytes().split().count(b"cat-file"), 1)
 
     def test_texts_that_people_keep_are_checked_only_if_asked_for(self):
@@ -175,7 +186,7 @@ class Staged(Repository):
         self.put("settings", TEXT)
         self.git("add", "k.plist", "settings")
         self.refuses(
-            "add this line to .gitattributes, and git add .gitattributes: /k.plist -plistconv",
+            "to commit k.plist as it is, in the top folder: printf '\\n%s\\n' '/k.plist -plistconv' >> ",
             "staged",
         )
         self.put(".gitattributes", b"k.plist -plistconv\nsettings plistconv\n")
@@ -205,53 +216,157 @@ class Staged(Repository):
             self.put(name, ARCHIVE)
             self.git("--literal-pathspecs", "add", "--", name)
         said = self.tool("staged", status=1).stderr.decode()
-        lines = re.findall(r"(?m)^.*git add \.gitattributes: (.* -plistconv)$", said)
+        lines = re.findall(r"(?m)^.* as it is, in the top folder: (.*)$", said)
         self.assertEqual(len(lines), len(names))
         for line in lines:
-            self.put(".gitattributes", line.encode() + b"\n")
+            self.call(["bash", "-ec", line])
+            left = self.tool("staged", status=1).stderr.count(b": refused 9")
+            self.assertEqual(left, len(names) - 1, line)
+            (self.folder / ".gitattributes").write_bytes(b"")
             self.git("add", ".gitattributes")
-            self.assertEqual(
-                self.tool("staged", status=1).stderr.count(b": refused 9"), len(names) - 1, line
-            )
-        self.put(".gitattributes", "\n".join(lines).encode())
-        self.git("add", ".gitattributes")
+        self.paste(said, "to commit")
+        self.prints(b"", "staged")
+        # Where a nearer file asks for the check.
+        self.put("sub/.gitattributes", b"*.plist plistconv")
+        self.git("add", "sub")
+        (command,) = self.paste(self.tool("staged", status=1).stderr.decode(), "to commit")
+        self.assertIn(" >> sub/.gitattributes && ", command)
         self.prints(b"", "staged")
 
-    def test_attributes_that_change_bytes_are_refused_with_the_line_that_mends(self):
-        value = self.canonical(b"(" + b"word," * 100 + b'"\n\r\n", ' * 99 + b")")
+    def test_attributes_that_change_bytes_are_refused(self):
+        value = self.canonical(b"(" + b"word," * 100 + b'"\n\r\n", ' * 99 + b'"$Id$")')
         self.put("a.plist", value)
         self.put("Settings", value)
-        said = "git changes its line ends: the attribute text or eol is set"
-        for line in ("text", "eol=crlf", "text eol=lf", "text=input", "crlf", "crlf=input"):
-            self.put(".gitattributes", f"* {line}\nSettings plistconv\n".encode())
+        for line, name in (
+            ("text", "text"),
+            ("eol=crlf", "eol"),
+            ("text eol=lf", "text"),
+            ("text=input", "text"),
+            ("crlf", "crlf"),
+            ("crlf=input", "crlf"),
+            ("ident", "ident"),
+            ("ident eol=lf", "eol and ident"),
+            ("-text ident", "ident"),
+        ):
+            self.put(".gitattributes", f"* {line}\nSettings plistconv".encode())
             self.git("add", "-A")
-            run = self.tool("staged", "--all", status=1)
-            self.assertNotIn(b"to commit a file as it is", run.stderr)  # (it may be broken already)
-            for name, fix in (
-                ("a.plist", "*.plist -text diff=plist"),
-                ("Settings", "/Settings -text diff=plist"),
-            ):
-                self.assertIn(f"{name}: {said}\n".encode(), run.stderr)
-                self.assertIn(
-                    f"end .gitattributes with this line, and git add .gitattributes: {fix}\n".encode(),
-                    run.stderr,
-                )
-        fixes = "*.plist -text diff=plist\n/Settings -text diff=plist\n"
+            said = self.tool("staged", "--all", status=1).stderr.decode()
+            self.assertNotIn("as it is", said)  # (it may be broken already)
+            for file in ("a.plist", "Settings"):
+                self.assertIn(f"{file}: git changes its bytes, by the attribute {name}\n", said)
+            more = " -ident" if "ident" in name else ""
+            files = "/Settings", "/a.plist" if more else "*.plist"
+            for command, of in zip(self.paste(said), files):
+                self.assertIn(f"'{of} -text{more} diff=plist' >> .gitattributes && git ", command)
+            self.keeps(value, line)
         for line in (
-            "* text\nSettings plistconv\n" + fixes,
             "* text=auto eol=crlf\nSettings plistconv\n",
             "* -text eol=crlf\n",
             "* -crlf\n",
             "* diff=plist\n",
+            "* working-tree-encoding=UTF-8\n",
         ):
             self.put(".gitattributes", line.encode())
-            self.git("rm", "-rqf", "--cached", ".")
             self.git("add", "-A")
-            self.prints(b"", "staged", "--all")
-            # And git does keep the bytes.
-            self.git("-c", "core.autocrlf=false", "checkout-index", "--prefix=out/", "-a")
-            self.assertEqual((self.folder / "out" / "a.plist").read_bytes(), value, line)
-            shutil.rmtree(str(self.folder / "out"))
+            self.keeps(value, line)
+
+    def keeps(self, value: bytes, why: str) -> None:
+        """Expects that no file is refused, and that git does keep the bytes."""
+        self.git("add", "-A")
+        self.prints(b"", "staged", "--all")
+        self.git("-c", "core.autocrlf=false", "checkout-index", "--prefix=out/", "-a")
+        self.assertEqual((self.folder / "out" / "a.plist").read_bytes(), value, why)
+        shutil.rmtree(str(self.folder / "out"))
+        self.git("rm", "-rqf", "--cached", ".")
+
+    def test_line_for_attributes_is_added_where_it_wins(self):
+        name, value = "sub/a b/x.plist", self.canonical(b'("\n\r\n", "\r\n", "\r\n")')
+        for files, wanted in (
+            ({".gitattributes": "* text"}, ".gitattributes"),
+            (
+                {".gitattributes": "* -text", "sub/.gitattributes": "*.plist text"},
+                "sub/.gitattributes",
+            ),
+            (
+                {".gitattributes": "* text", "sub/.gitattributes": "* -ident"},
+                ".gitattributes",
+            ),
+            (
+                {".gitattributes": "[attr]lines text\n", "sub/a b/.gitattributes": "x.* lines"},
+                "'sub/a b/.gitattributes'",
+            ),
+            (
+                {".git/info/attributes": "* text", "sub/.gitattributes": "* text"},
+                ".git/info/attributes",
+            ),
+            ({".git/mine": "*.plist text"}, ".gitattributes"),
+        ):
+            self.git("config", "core.attributesFile", str(self.folder / ".git" / "mine"))
+            self.put(name, value)
+            for path, lines in files.items():
+                self.put(path, lines.encode())
+            self.git("add", "-A")
+            (command,) = self.paste(self.tool("staged", status=1).stderr.decode())
+            self.assertIn(
+                f"printf '\\n%s\\n' '*.plist -text diff=plist' >> {wanted} && git", command
+            )
+            self.assertEqual(self.git("cat-file", "blob", f":{name}"), value, files)
+            self.prints(b"", "staged")
+            for path in files:
+                (self.folder / path).unlink()
+            self.git("rm", "-rqf", "--cached", ".")
+
+    def test_encoded_text_is_made_canonical_after_its_attribute(self):
+        self.put("a.plist", '\ufeff{b = "é";}'.encode("utf-16-le"))
+        self.put("sub/b.plist", b"{b = a;}")
+        for encoding in ("UTF-16", "UTF-16LE-BOM"):
+            self.put(".gitattributes", f"/a.plist working-tree-encoding={encoding}".encode())
+            self.git("add", "-A")
+            said = self.tool("staged", status=1).stderr.decode()
+            self.assertIn("a.plist: git changes its bytes, by the attribute working-tree-enc", said)
+            self.assertEqual(len(self.paste(said)), 2)
+            for name in ("a.plist", "sub/b.plist"):
+                octets = (self.folder / name).read_bytes()
+                self.assertEqual(self.git("cat-file", "blob", f":{name}"), octets)
+            self.prints(b"", "staged")
+            self.put("a.plist", '\ufeff{b = "é";}'.encode("utf-16-le"))
+
+    def test_conflicts_and_pointers_are_named(self):
+        sides = b"<<<<<<< HEAD\na = b;\n=======\na = c;\n>>>>>>> other\n"
+        for octets in (b"{\n" + sides + b"}\n", XML.replace(b"<dict>", b"<dict>\n" + sides)):
+            self.put("a.plist", octets)
+            self.git("add", "-A")
+            said = self.tool("staged", status=1).stderr.decode()
+            self.assertRegex(
+                said, "^plistconv-staged: a.plist: refused .*, a merge conflict: keep one"
+            )
+            self.assertEqual(said.count("\n"), 1)
+        self.put("a.plist", b"version https://git-lfs.github.com/spec/v1\noid sha256:0\nsize 1\n")
+        self.git("add", "-A")
+        said = self.tool("staged", status=1).stderr.decode()
+        self.assertIn("a.plist: a pointer of Git LFS, which has the file itself", said)
+        self.paste(said, "to commit")
+        self.prints(b"", "staged")
+
+    def test_bare_repository_is_checked_at_its_head(self):
+        self.put("sub/a.plist", TEXT)
+        self.put("k.plist", ARCHIVE)
+        self.put(".gitattributes", b"k.plist -plistconv\nsub/b.plist text")
+        self.put("sub/b.plist", self.canonical(TEXT))
+        self.git("add", "-A")
+        self.commit()
+        self.git("clone", "-q", "--bare", ".", "bare.git")
+        bare = str(self.folder / "bare.git")
+        said = self.tool("staged", "--all", status=1, cwd=bare).stderr.decode()
+        self.assertEqual(
+            re.findall(r"(?m)^plistconv-staged: (\S*):", said), ["sub/a.plist", "sub/b.plist"]
+        )
+        self.assertNotIn("in the work tree", said)
+        self.refuses("a bare repository has no index: give --all", "staged", status=2, cwd=bare)
+        self.paste(self.tool("staged", "--all", status=1).stderr.decode())
+        self.commit()
+        self.git("push", "-q", "bare.git", "HEAD")
+        self.prints(b"", "staged", "--all", cwd=bare)
 
     def test_attributes_are_checked_if_they_change(self):
         self.put("a.plist", self.canonical(TEXT))
@@ -262,7 +377,7 @@ class Staged(Repository):
         self.put(".gitattributes", b"*.plist text\n")
         self.git("add", "-A")
         run = self.tool("staged", status=1)
-        self.assertEqual(run.stderr.count(b": git changes its line ends"), 2)
+        self.assertEqual(run.stderr.count(b": git changes its bytes, by the attribute text\n"), 2)
         self.assertNotIn(b"an OpenStep text", run.stderr)
         self.git("commit", "-qm", "two")
         self.prints(b"", "staged")
@@ -278,10 +393,13 @@ class Staged(Repository):
             ("empty.plist", b""),
             ("n\n'\\.plist", UNSORTED),
             ("comment.plist", b"// {}"),
+            ("-", UNSORTED),
             (os.fsdecode(b"caf\xe9.plist"), UNSORTED),
         ):
             self.put(name, octets)
             self.git("--literal-pathspecs", "add", "--", name)
+        self.put(".gitattributes", b"/- plistconv")
+        self.git("add", ".gitattributes")
         self.put("b.plist", b"not staged")
         self.hook()
         said = self.commit(status=1)
