@@ -214,9 +214,13 @@ class EveryCommand(Case):
             "PLISTCONV_PRINT_LIMIT is no number of bytes: 1 GB", "textconv", "a", status=2, env=env
         )
 
+    def textconv(self, *words, **more) -> bytes:
+        """Returns what plistconv-textconv prints of a text before the line with its digest."""
+        return self.tool("textconv", *words, **more).stdout.partition(b"Bytes: SHA-256 ")[0]
+
     def test_no_temporary_folder_is_needed(self):
         env = {**self.environment, "TMPDIR": "/none"}
-        self.prints(PRINTED, "textconv", "a", env=env)
+        self.assertEqual(self.textconv("a", env=env), PRINTED)
         self.tool("digest", "a", env=env)
         self.tool("diff", "a", "other", status=1, env=env)
         self.tool("canonicalise", "--from-xml", "a", env=env)
@@ -226,7 +230,7 @@ class EveryCommand(Case):
         for module in ("plistlib", "argparse", "unicodedata", "plistconv_tools"):
             self.put(f"{module}.py", b'open("taken", "w")\n')
         self.put("x", XML)
-        self.prints(XML_PRINTED, "textconv", "x")
+        self.assertEqual(self.textconv("x"), XML_PRINTED)
         self.tool("where", "a", "1")
         self.assertNotIn("taken", self.left())
 
@@ -251,7 +255,7 @@ class EveryCommand(Case):
             run = self.call(
                 [sys.executable, "bin/plistconv-textconv", "a"], status, env={**env, "PATH": path}
             )
-            self.assertEqual(run.stdout, b"" if status else PRINTED)
+            self.assertEqual(run.stdout.partition(b"Bytes")[0], b"" if status else PRINTED)
 
         for folder in (checkout, installed):
             prints(folder, status=2)
@@ -294,8 +298,8 @@ class EveryCommand(Case):
             except OSError:
                 self.skipTest("skipped: no file here has such a name")
             self.prints(digest + b"  " + name + b"\n", "digest", "--", name)
-            self.prints(PRINTED, "textconv", "--", name)
-            self.prints(PRINTED, "textconv", name)
+            self.assertEqual(self.textconv("--", name), PRINTED)
+            self.assertEqual(self.textconv(name), PRINTED)
             self.tool("diff", "--", name, "other", status=1)
             self.tool("where", "--", name, "1")
             self.tool("canonicalise", "--", name)
