@@ -39,6 +39,17 @@ class Pages(Case):
         ):
             self.assertIn(f"  {line}\n", self.tool(name, "--help").stdout.decode())
 
+    def test_sample_for_the_framework_has_what_it_needs(self):
+        manual, hooks = page("man/plistconv-tools.1"), page(".pre-commit-hooks.yaml")
+        sample = re.search(
+            r"(?ms)^default_install_hook_types: \[(.*?)]\nrepos:\n(.*?)^\.RE", manual
+        )
+        self.assertEqual(sample[1], "pre-commit, pre-merge-commit")
+        self.assertIn(re.search("(?m)- id: .*$", hooks)[0], sample[2])
+        self.assertIn(
+            "\n.B rev\na commit there, no branch: that of the program on the path", manual
+        )
+
     def test_manual_has_every_option(self):
         manual = page("man/plistconv-tools.1")
         for name in COMMANDS:
