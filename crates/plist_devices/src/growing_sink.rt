@@ -5,8 +5,8 @@ ghost use Rattle.plist_devices.specs.Sink.{IsPut};
 use crate::{DeviceFault, Sink};
 use std::alloc::Global;
 
-/// A sink that appends each piece to a vector. A put fails only if out of memory, or if the count of
-/// failures is `u64::MAX`.
+/// A sink that appends each piece to a vector. A put fails only if out of memory, or if the count
+/// of failures is `u64::MAX`.
 #[derive(Drop)]
 pub struct GrowingSink {
     octets: Vec<u8>,
@@ -43,7 +43,8 @@ impl Sink for GrowingSink {
     ghost failures = { growing_sink_failures };
 
     fn put(&mut self, piece: &[u8]) -> Result<usize, DeviceFault>
-        ensures put { IsPut (Some (growing_sink_taken self.old)) (Some (growing_sink_taken self.new))
+        ensures put { IsPut
+            (Some (growing_sink_taken self.old)) (Some (growing_sink_taken self.new))
             (growing_sink_failures self.old) (growing_sink_failures self.new) result piece.now }
         ensures whole { IfOk result (λ n. n ≡ length piece.now) }
     {

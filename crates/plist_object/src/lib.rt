@@ -4,6 +4,7 @@
 
 mod in_order;
 mod judged_file;
+mod key_texts;
 mod keys;
 pub mod laws;
 pub mod layout;
@@ -23,11 +24,12 @@ mod sorted_keys;
 mod units;
 
 pub use judged_file::JudgedFile;
+pub use key_texts::text_of;
 pub use layout::{BinFile, LayoutFault, Spanned};
 pub use lengths::{list_length, scalar_length, table_length, to_u32, width_of};
 pub use markers::HEADER;
 pub use object::{Object, ObjectFault};
-pub use order::{KeyOrder, text_of};
+pub use order::KeyOrder;
 pub use puts::{
     put_data_head, put_list, put_number, put_scalar, put_short_list, put_short_table, put_table,
     put_trailer,

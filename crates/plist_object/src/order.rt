@@ -9,13 +9,14 @@ ghost use Rattle.std.specs.Prelude.{IfOk, OnOk, IfSome};
 ghost use Rattle.plist_value.specs.Plist.{text};
 ghost use Rattle.plist_value.specs.Texts.{units_of};
 ghost use Rattle.plist_object.specs.Objects.{holds_scalar};
-ghost use Rattle.plist_object.specs.Places.{Holds, HoldsText};
+ghost use Rattle.plist_object.specs.Places.{Holds};
 ghost use Rattle.plist_object.specs.Views.{numbers_of, octets_of};
 ghost use Rattle.plist_object.specs.Order.{Ascend, IsInOrder, NameTexts};
 ghost use Rattle.plist_object.specs.KeyOrder.{AreRows, AreTexts, IsRankOf, IsReady, IsSortedIn, TellsOrder};
 ghost use Rattle.plist_object.specs.KeyOrder.{by_number, sort_key, index_of, indices_of, row_units};
 ghost use Rattle.plist_object.specs.Ranks.{AreRanks};
 
+use crate::key_texts::{texts_of, texts_within};
 use crate::keys::Keys;
 use crate::layout::BinFile;
 use crate::lengths::to_u32;
@@ -239,48 +240,6 @@ fn ranked<'a>(ranks: &Ranks<'a>, object: u64) -> Option<(u64, TextRef<'a>)>
     Some((rank, ranks.text(rank)?))
 }
 
-fn texts_of<'a>(
-    alloc: Global,
-    file: &BinFile<'a>,
-    keys: &Refs,
-) -> Result<Vec<TextRef<'a>>, AllocError>
-    requires { NameTexts (octets_of file.now) (numbers_of keys.now) }
-    ensures { IfOk result (λ texts. AreTexts (octets_of file.now) (numbers_of keys.now)
-        texts.items) }
-{
-    let mut texts = Vec::with_capacity(alloc, keys.len() as usize)?;
-    for index in 0..keys.len() {
-        texts.push(text_of(file, keys.get(index)))?;
-    }
-    Ok(texts)
-}
-
-// Returns the strings of the keys and what is left of this number of units, or `None` if they have
-// more. The strings after that are not decoded, so that a long string that is a key many times
-// costs little.
-fn texts_within<'a>(
-    alloc: Global,
-    file: &BinFile<'a>,
-    keys: &Refs,
-    left: u64,
-) -> Result<Option<(Vec<TextRef<'a>>, u64)>, AllocError>
-    requires { NameTexts (octets_of file.now) (numbers_of keys.now) }
-    ensures { IfOk result (λ found. IfSome found (λ within. AreTexts (octets_of file.now)
-        (numbers_of keys.now) within.0.items)) }
-{
-    let mut rest = left;
-    let mut texts = Vec::with_capacity(alloc, keys.len() as usize)?;
-    for index in 0..keys.len() {
-        let text = text_of(file, keys.get(index));
-        rest = match rest.checked_sub(text.len() as u64) {
-            Some(rest) => rest,
-            None => return Ok(None),
-        };
-        texts.push(text)?;
-    }
-    Ok(Some((texts, rest)))
-}
-
 // Returns the keys with these strings, sorted and numbered by sort prefixes if they are many.
 fn text_rows<'a>(alloc: Global, texts: Vec<TextRef<'a>>) -> Result<Rows<'a>, AllocError>
     ensures texts { IfOk result (λ rows. rows.texts.items ≡ texts.entry.items) }
@@ -396,12 +355,4 @@ fn indices_in_order(alloc: Global, rows: &[Row]) -> Result<Vec<u32>, AllocError>
         indices.push(row.index)?;
     }
     Ok(indices)
-}
-
-/// Returns the string that an object contains.
-pub fn text_of<'a>(file: &BinFile<'a>, n: u64) -> TextRef<'a>
-    requires { HoldsText (octets_of file.now) n }
-    ensures { Holds (octets_of file.now) n (holds_scalar (text (units_of result))) }
-{
-    file.text(n).unwrap()
 }

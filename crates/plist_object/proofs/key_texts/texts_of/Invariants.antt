@@ -1,7 +1,7 @@
 use Rattle.std.proofs.Common.{◌≡◌, ◌<◌, ℕ, length}
 use Rattle.plist_object.specs.Views.{octets_of, numbers_of}
 use Rattle.plist_object.specs.KeyOrder.{HoldsString}
-use Rattle.plist_object.proofs.order.texts_within.Given as goal
+use Rattle.plist_object.proofs.key_texts.texts_of.Given as goal
 
 abbrev pub invariant-loop-index : goal.invariant-loop-index
 invariant-loop-index l = record {
