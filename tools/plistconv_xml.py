@@ -7,6 +7,7 @@ property lists first.
 """
 from __future__ import annotations
 
+import math
 import plistlib
 import re
 import sys
@@ -22,7 +23,9 @@ LEAVES = {
         re.ASCII | re.IGNORECASE,
     ),
     "date": re.compile(r"[0-9]{4}-[0-9]{2}-[0-9]{2}T[0-9]{2}:[0-9]{2}:[0-9]{2}Z"),
-    "data": re.compile(r"(?:[A-Za-z0-9+/]{4})*(?:[A-Za-z0-9+/]{2}==|[A-Za-z0-9+/]{3}=)?"),
+    "data": re.compile(
+        r"(?:[A-Za-z0-9+/]{4})*(?:[A-Za-z0-9+/][AQgw]==|[A-Za-z0-9+/]{2}[AEIMQUYcgkosw048]=)?"
+    ),
     "true": re.compile(r"\s*", re.ASCII),
     "false": re.compile(r"\s*", re.ASCII),
 }
@@ -80,6 +83,8 @@ class Shape:
             text = "".join(text.split())
         if name in LEAVES and not LEAVES[name].fullmatch(text):
             raise Fault(f"this is no <{name}>: {text[:40]!r}")
+        if name == "real" and is_out_of_range(text):
+            raise Fault(f"a <real> out of range: {text[:40]!r}")
         if name == "key" and text == "CF$UID":
             raise Fault("the key CF$UID, a UID of a keyed archive")
         if name == "dict" and children % 2:
@@ -93,6 +98,14 @@ class Shape:
             self.text.append(text)
         elif text.strip():
             raise Fault(f"text outside of a value: {text[:40]!r}")
+
+
+def is_out_of_range(text: str) -> bool:
+    """Returns whether 8 bytes make a decimal number infinite, or zero although it is not."""
+    digits, number = text.lower().partition("e")[0], float(text)
+    if math.isinf(number):
+        return "n" not in digits
+    return number == 0 and re.search("[1-9]", digits) is not None
 
 
 def check(octets: bytes) -> None:

@@ -1,9 +1,12 @@
 """Tests that XML is converted if plistlib reads it correctly, and refused otherwise."""
 from __future__ import annotations
 
+import base64
 import datetime
 import plistlib
 import unittest
+
+import plistconv_xml
 
 from testing import OTHER, PROGRAM, TEXT, XML, Case
 
@@ -41,7 +44,7 @@ class Xml(Case):
             "text": "é 😀\n",
             "": "",
             "whole": [0, -1, 2**63 - 1, -(2**63), 2**64 - 1],
-            "real": [2.5, -1e300, 0.0],
+            "real": [2.5, -1e300, 0.0, 5e-324, float("inf"), float("-inf")],
             "flags": [True, False],
             "data": bytes(range(256)),
             "date": datetime.datetime(2025, 11, 22, 19, 54, 22),
@@ -49,6 +52,26 @@ class Xml(Case):
         }
         wanted = self.canonical(plistlib.dumps(value, fmt=plistlib.FMT_BINARY))
         self.assertEqual(self.converted(plistlib.dumps(value)), wanted)
+
+    def test_reals_and_data_at_their_limits_are_read(self):
+        for value in (
+            *(
+                "1.7976931348623157e308",
+                "4.9e-324",
+                "0e999",
+                "-0.0e-999",
+                "infinity",
+                "-INF",
+                "nan",
+            ),
+            *("0e0", "000.000", "+1E+308"),
+        ):
+            self.converted(document(f"<real>{value}</real>"))
+        for octets in (b"", *(bytes([one, two]) for one in (0, 255) for two in range(256))):
+            value = base64.b64encode(octets).decode()
+            self.assertEqual(plistconv_xml.LEAVES["data"].fullmatch(value) is not None, True, value)
+            value = base64.b64encode(octets[1:]).decode()
+            self.assertEqual(plistconv_xml.LEAVES["data"].fullmatch(value) is not None, True, value)
 
     def test_spellings_of_one_value_are_equal(self):
         wanted = self.canonical(b"{ a = (b, <0001>); }")
@@ -73,6 +96,8 @@ class Xml(Case):
         for value, why in (
             ("<data>!!!</data>", "line 3: this is no <data>: '!!!'"),
             ("<data>AAE</data>", "line 3: this is no <data>"),
+            ("<data>AAF=</data>", "line 3: this is no <data>: 'AAF='"),
+            ("<data>AAAAAB==</data>", "line 3: this is no <data>: 'AAAAAB=='"),
             ("<string>a</string><string>b</string>", "line 3: a second value"),
             ("", "line 3: no value"),
             (
@@ -94,6 +119,10 @@ class Xml(Case):
             ("<integer/>", "line 3: this is no <integer>"),
             ("<integer>99999999999999999999</integer>", "plistlib: OverflowError"),
             ("<real>1_0.5</real>", "line 3: this is no <real>"),
+            ("<real>1e400</real>", "line 3: a <real> out of range: '1e400'"),
+            ("<real> -2E309 </real>", "line 3: a <real> out of range: ' -2E309 '"),
+            ("<real>1e-400</real>", "line 3: a <real> out of range: '1e-400'"),
+            ("<real>.03e-999</real>", "line 3: a <real> out of range"),
             ("<date>2025-11-22T19:54:22Z and more</date>", "line 3: this is no <date>"),
             ("<date>2025-13-22T19:54:22Z</date>", "plistlib: ValueError"),
             ("<string>&none;</string>", "line 3: an entity: none"),
