@@ -65,7 +65,7 @@ program() {
         esac
         print "$SHARE/man/man1/$file.1" '.so man1/plistconv-tools.1'
     done
-    for file in plistconv_{early,files,git,lines,objects,tools,xml}.py; do put 644 "tools/$file" "$SHARE/plistconv/tools/$file"; done
+    for file in plistconv_{early,files,git,lines,objects,processes,tools,xml}.py; do put 644 "tools/$file" "$SHARE/plistconv/tools/$file"; done
     for file in plistconv.1 plistconv-tools.1; do put 644 "man/$file" "$SHARE/man/man1/$file"; done
     put 644 completions/plistconv.bash "$SHARE/bash-completion/completions/plistconv"
     put 644 completions/_plistconv "$SHARE/$ZSH/_plistconv"

@@ -3,20 +3,24 @@ extended attributes."""
 from __future__ import annotations
 
 import errno
+import fcntl
 import os
 import re
 import stat
-import tempfile
+import sys
 import time
 from contextlib import suppress
 from functools import lru_cache
 
 import plistconv_tools as tools
+from plistconv_processes import undoing
 
-BESIDE = ".plistconv-"  # how the name of a new file begins, until it replaces the old one
-LEFT = re.compile(r"\.plistconv-[a-z0-9_]{8}")
+# How a new file is named until it replaces the old one: as nobody names a file.
+BESIDE = re.compile(r"\.plistconv-[0-9]+-[0-9a-f]{16}")
 DAY = 24 * 60 * 60
 ACL = "system.posix_acl_access"
+GET_FLAGS = 0x80086601  # FS_IOC_GETFLAGS of Linux
+FLAGS = "sucSiadA--m---jt----V--C-x---P"  # those that chattr sets, by their bits
 
 
 def state(about: os.stat_result) -> tuple[int, ...]:
@@ -39,7 +43,7 @@ def to_replace(name: str, follows: bool) -> tuple[str, os.stat_result]:
 def to_write(name: str, follows: bool) -> tuple[str, os.stat_result | None]:
     """Returns the path of a regular file and its state, or that of a file that does not
     exist yet, and `None`."""
-    if os.path.lexists(name):
+    if os.path.lexists(name) or not name:
         return to_replace(name, follows)
     return (
         os.path.join(os.path.realpath(os.path.dirname(name) or "."), os.path.basename(name)),
@@ -47,11 +51,14 @@ def to_write(name: str, follows: bool) -> tuple[str, os.stat_result | None]:
     )
 
 
+def opener(path: str, how: int) -> int:
+    """Opens no link, and does not wait for a pipe."""
+    return os.open(path, how | os.O_NOFOLLOW | os.O_NONBLOCK)
+
+
 def read(path: str, seen: os.stat_result) -> bytes:
     """Returns the content of a file, which must still be the same one."""
-    with open(
-        path, "rb", opener=lambda path, flags: os.open(path, flags | os.O_NOFOLLOW | os.O_NONBLOCK)
-    ) as file:
+    with open(path, "rb", opener=opener) as file:
         if state(os.fstat(file.fileno())) != state(seen):
             raise tools.Refused("changed meanwhile")
         return file.read()
@@ -95,20 +102,21 @@ def keep_attributes(file: int, path: str) -> list[str]:
     return lost
 
 
+def flags(file: int) -> set[str]:
+    """Returns the flags of chattr that are set. Raises `OSError` if the file system has none."""
+    bits = int.from_bytes(fcntl.ioctl(file, GET_FLAGS, bytes(8))[:4], sys.byteorder)
+    return {flag for bit, flag in enumerate(FLAGS) if bits >> bit & 1}
+
+
 def keep(file: int, path: str, seen: os.stat_result, is_forced: bool) -> list[str]:
     """Gives the new file what the old one has beside its content, and returns what is not kept."""
     lost = keep_owner(file, seen, is_forced)
     mode = stat.S_IMODE(seen.st_mode) & ~(stat.S_ISUID | stat.S_ISGID if lost else 0)
     lost += keep_attributes(file, path)
     os.fchmod(file, mode)
+    with suppress(OSError), open(path, "rb", opener=opener) as old:
+        lost += [f"flag {flag} of chattr" for flag in sorted(flags(old.fileno()) - flags(file))]
     return lost
-
-
-def unmasked(mode: int) -> int:
-    """Returns the mode that a new file gets."""
-    mask = os.umask(0)
-    os.umask(mask)
-    return mode & ~mask
 
 
 def is_unchanged(path: str, seen: os.stat_result | None) -> bool:
@@ -129,33 +137,33 @@ def write(
 ) -> list[str]:
     """Replaces the content of a file in one step, or makes a new one with the mode, and returns
     what could not be kept of the old one. Raises `OSError`, or `Refused` if the file has changed
-    since it was seen or its owner or group cannot be kept, and then leaves it unchanged."""
-    file, beside = tempfile.mkstemp(prefix=BESIDE, dir=os.path.dirname(path))
-    try:
+    since it was seen, or is not forced and read-only or its owner or group cannot be kept. Then it
+    leaves the file unchanged."""
+    if seen and not is_forced and not (seen.st_mode & 0o222 and os.access(path, os.W_OK)):
+        raise tools.Refused("is read-only (--force replaces it)")
+    beside = os.path.join(os.path.dirname(path), f".plistconv-{os.getpid()}-{os.urandom(8).hex()}")
+    with undoing(lambda: os.unlink(beside)):
+        file = os.open(beside, os.O_WRONLY | os.O_CREAT | os.O_EXCL, 0o600 if seen else mode)
         try:
             tools.write_all(file, octets)
-            if seen is None:
-                os.fchmod(file, unmasked(mode))
-            lost = [] if seen is None else keep(file, path, seen, is_forced)
+            lost = keep(file, path, seen, is_forced) if seen else []
             os.fsync(file)
         finally:
             os.close(file)
         if not is_unchanged(path, seen):
             raise tools.Refused("changed meanwhile")
         os.replace(beside, path)
-    except BaseException:
-        with suppress(FileNotFoundError):  # A signal may come just after it was renamed.
-            os.unlink(beside)
-        raise
     return lost
 
 
 @lru_cache(maxsize=None)
 def sweep(folder: str) -> None:
-    """Removes new files that commands left in the folder when they were killed
-    more than a day ago."""
+    """Removes the user's new files that commands left in the folder when they were killed more
+    than a day ago, and says so."""
     with suppress(OSError):
         for entry in os.scandir(folder):
-            about = entry.stat(follow_symlinks=False) if LEFT.fullmatch(entry.name) else None
-            if about and stat.S_ISREG(about.st_mode) and time.time() - about.st_mtime > DAY:
+            about = entry.stat(follow_symlinks=False) if BESIDE.fullmatch(entry.name) else None
+            is_own = about and stat.S_ISREG(about.st_mode) and about.st_uid == os.geteuid()
+            if about and is_own and time.time() - about.st_mtime > DAY:
                 os.unlink(entry.path)
+                tools.say(f"{tools.shown(entry.path)}: removed; a run that was killed left it")

@@ -12,18 +12,35 @@ import os
 import re
 import shutil
 import signal
-import subprocess
+import struct
 import sys
-import threading
 from contextlib import contextmanager
 from functools import lru_cache
-from typing import IO, Callable, Iterator, NoReturn
+from typing import Callable, Iterator, NoReturn
+
+from plistconv_processes import SECOND, end_at_signals, run_over
 
 VERSION = "0.3.0"
 COMMAND = os.path.basename(sys.argv[0])
-SECOND = "SECOND"  # where a command has the path of its second input
 STANDARD_INPUT = ("-", "/dev/stdin", "/dev/fd/0", "/proc/self/fd/0")
 PRINT_LIMIT = 64_000_000  # the most bytes of a printed text, unless PLISTCONV_PRINT_LIMIT is set
+PRINTED = (
+    rb"(?s)(\{(\n  .*\n)?\}|\[(\n  .*\n)?\]|<([0-9a-f]*|\n  .*\n)>|\"[^\n]*\"|true|false|"
+    rb"(date )?-?([0-9.]+|infinity|(real|nan) <[0-9a-f]+>)f?( \([^\n]*\))?)\n"
+)
+# What the program prints if it has an answer, by its command (none converts) and its status.
+ANSWERS = {
+    ("", 0): rb"(?s)bplist00.*",
+    ("same", 0): rb"equal\n",
+    ("same", 1): rb"different\n",
+    ("lint", 0): rb"[^\n]*: OK\n",
+    ("check", 0): rb"canonical\n",
+    ("check", 1): rb"broken C[0-7] at object [0-9]+\n",
+    ("print", 0): PRINTED,
+}
+REFUSAL = re.compile(
+    rb"(?s)(?:.*: )?(refused ([0-9]+) [A-Za-z0-9]+(?: at [a-z]+ [0-9]+| after [0-9]+ octets)?)\n"
+)
 XML_HINT = (
     "XML is converted first, always by the same one of: plistconv-canonicalise --from-xml FILE; "
     "plistutil -i IN -f bin -o OUT; on macOS plutil -convert binary1 -o OUT IN"
@@ -197,84 +214,37 @@ def own_places() -> list[str]:
     return places
 
 
-def ask(arguments: list[str], octets: bytes, limit: int = sys.maxsize) -> tuple[int, bytes]:
-    """Runs the program with the bytes as input and returns its status and output. Raises `Refused`
-    if the program refuses the input, or if it prints more than `limit` bytes and is ended."""
-    status, output = run_over([program(), *arguments], octets, limit)
+def ask(arguments: list[str], *octets: bytes, limit: int = sys.maxsize) -> tuple[int, bytes]:
+    """Runs the program with one or two inputs and returns its status and output, or the first part
+    of what exceeds `limit` bytes. Raises `Refused` if it refuses an input."""
+    try:
+        status, output = run_over([program(), *arguments], octets, limit)
+    except OSError as fault:
+        raise Trouble(f"{shown(program())} cannot be run: {reason(fault)}") from None
     if len(output) > limit:
-        raise Refused(f"prints more than {limit} bytes, the limit (PLISTCONV_PRINT_LIMIT)")
-    return answer(status, output, is_xml(octets))
-
-
-def answer(status: int, output: bytes, has_xml: bool = False) -> tuple[int, bytes]:
-    """Returns the status and output of the program. Raises `Refused` if it refuses its input."""
-    if status in (0, 1):
         return status, output
-    why = re.search(rb"refused [ -~]*", output)
-    if status not in (2, 5) or why is None:
-        raise Trouble(f"{shown(program())} ended with status {status}")
-    line = why[0].decode()
+    return answer(arguments[0] if arguments else "", status, output, is_xml(octets[0]))
+
+
+def answer(asked: str, status: int, output: bytes, has_xml: bool) -> tuple[int, bytes]:
+    """Returns the status and output of the program if they answer what it was asked. Raises
+    `Refused` if it refuses an input, and `Trouble` if it says anything else."""
+    shape = ANSWERS.get((asked, status))
+    if shape and re.fullmatch(shape, output) and (asked or is_whole(output)):
+        return status, output
+    refusal = REFUSAL.fullmatch(output)
+    if refusal is None or status != (5 if refusal[2] == b"60" else 2):
+        raise Trouble(f"{shown(program())} ended with status {status}, without an answer")
+    line = refusal[1].decode()
     raise RefusedXml(f"{line} (XML)") if has_xml else Refused(line)
 
 
-def run_over(
-    command: list[str], octets: bytes, limit: int = sys.maxsize, second: bytes = b""
-) -> tuple[int, bytes]:
-    """Runs a program with the bytes as input, and returns its status and output. If the last word
-    of the command is `SECOND`, it becomes the path of a pipe with other bytes. Ends the program if
-    its output exceeds `limit` bytes."""
-    pipes = os.pipe() if command[-1] == SECOND else ()
-    if pipes:
-        command = [*command[:-1], f"/dev/fd/{pipes[0]}"]
-    try:
-        process = subprocess.Popen(
-            command, stdin=subprocess.PIPE, stdout=subprocess.PIPE, pass_fds=pipes[:1]
-        )
-    except OSError as fault:
-        raise Trouble(f"{shown(command[0])} cannot be run: {reason(fault)}") from None
-    with process:
-        try:
-            assert process.stdin is not None and process.stdout is not None
-            feeders = [threading.Thread(target=feed, args=(process.stdin, octets))]
-            if pipes:
-                os.close(pipes[0])
-                feeders.append(
-                    threading.Thread(target=feed, args=(os.fdopen(pipes[1], "wb"), second))
-                )
-            for feeder in feeders:
-                feeder.start()
-            output = read_up_to(process.stdout, limit)
-        except (
-            BaseException
-        ):  # A signal: a program that does not read would keep the pipe from being closed.
-            process.kill()
-            raise
-        if len(output) > limit:
-            process.kill()
-        for feeder in feeders:
-            feeder.join()
-    return process.returncode, output
-
-
-def read_up_to(pipe: IO[bytes], limit: int) -> bytes:
-    """Returns what is written to a pipe, or a part of more than `limit` bytes."""
-    output = bytearray()
-    while len(output) <= limit:
-        part = pipe.read(1 << 20)
-        if not part:
-            break
-        output += part
-    return bytes(output)
-
-
-def feed(pipe: IO[bytes], octets: bytes) -> None:
-    """Writes the bytes to a pipe and closes it. The reader may end earlier, or the pipe be
-    closed at a signal."""
-    try:
-        with pipe:
-            pipe.write(octets)
-    except (BrokenPipeError, ValueError):
-        pass
+def is_whole(octets: bytes) -> bool:
+    """Returns whether a binary file ends where its trailer says."""
+    if len(octets) < 40:
+        return False
+    width, count, table = struct.unpack(">6xBxQ8xQ", octets[-32:])
+    return table + width * count + 32 == len(octets)
 
 
 def canonical(octets: bytes) -> bytes:
@@ -284,7 +254,7 @@ def canonical(octets: bytes) -> bytes:
 
 def print_limit() -> int:
     """Returns the most bytes that a printed text may have."""
-    given = os.environ.get("PLISTCONV_PRINT_LIMIT", str(PRINT_LIMIT))
+    given = os.environ.get("PLISTCONV_PRINT_LIMIT") or str(PRINT_LIMIT)
     if not re.fullmatch("[0-9]{1,15}", given):
         raise Trouble(f"PLISTCONV_PRINT_LIMIT is no number of bytes: {shown(given)}")
     return int(given)
@@ -292,20 +262,22 @@ def print_limit() -> int:
 
 def printed(octets: bytes) -> bytes:
     """Returns the printed text of a property list. Raises `Refused`, also if it is too long."""
-    return ask(["print", "/dev/stdin"], octets, print_limit())[1]
+    limit = print_limit()
+    text = ask(["print", "/dev/stdin"], octets, limit=limit)[1]
+    if len(text) > limit:
+        raise Refused(f"prints more than {limit} bytes, the limit (PLISTCONV_PRINT_LIMIT)")
+    return text
 
 
 def print_begins(octets: bytes) -> bytes:
-    """Returns the first bytes of the printed text of a property list, however long it is.
-    Raises `Refused`."""
-    most = 1 << 10
-    status, output = run_over([program(), "print", "/dev/stdin"], octets, most)
-    return output[:most] if len(output) > most else answer(status, output)[1]
+    """Returns the printed text of a property list, or the first part of a long one. Raises
+    `Refused`."""
+    return ask(["print", "/dev/stdin"], octets, limit=1 << 10)[1]
 
 
 def same(old: bytes, new: bytes) -> bool:
     """Returns whether two property lists have equal values. Raises `Refused`."""
-    return answer(*run_over([program(), "same", "/dev/stdin", SECOND], old, second=new))[0] == 0
+    return ask(["same", "/dev/stdin", SECOND], old, new)[0] == 0
 
 
 def without_xml(octets: bytes) -> bytes:
@@ -332,11 +304,6 @@ def binary_of_xml(octets: bytes) -> bytes:
         raise Refused(f"refused as XML: {fault}") from None
 
 
-def end(number: int, _frame: object) -> NoReturn:
-    """Ends the command at a signal, and lets it remove its new file."""
-    sys.exit(128 + number)
-
-
 def prepare() -> None:
     """Opens standard files that are closed, so that no other file gets their numbers,
     and handles signals."""
@@ -345,9 +312,7 @@ def prepare() -> None:
             os.fstat(number)
         except OSError:
             os.open(os.devnull, os.O_RDWR)
-    for number in (signal.SIGTERM, signal.SIGHUP, signal.SIGINT):
-        if signal.getsignal(number) is signal.SIG_DFL:
-            signal.signal(number, end)
+    end_at_signals()
 
 
 def close_output() -> None:
@@ -367,7 +332,7 @@ def run(main: Callable[[], int]) -> NoReturn:
         prepare()
         try:
             status: str | int | None = main()
-        except SystemExit as ended:  # Raised by the argument parser, or at a signal.
+        except SystemExit as ended:  # Raised by the argument parser.
             status = ended.code
             if status == 0:
                 write(b"")  # If standard output is closed, the help went to standard error.
@@ -377,6 +342,4 @@ def run(main: Callable[[], int]) -> NoReturn:
     except (Trouble, MemoryError) as fault:
         say(str(fault) or "out of memory")
         status = 2
-    if signal.getsignal(signal.SIGINT) is end:
-        signal.signal(signal.SIGINT, signal.SIG_DFL)
     sys.exit(status)

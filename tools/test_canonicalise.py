@@ -1,36 +1,13 @@
-"""Tests plistconv-canonicalise: which files it replaces, and what it keeps of them."""
+"""Tests which files plistconv-canonicalise replaces."""
 from __future__ import annotations
 
 import os
 import resource
-import shlex
 import shutil
 import stat
-import struct
-import sys
-import time
 import unittest
-from pathlib import Path
 
-from testing import ARCHIVE, OTHER, PROGRAM, SAME, TEXT, TOOLS, TWICE, XML, Case
-
-
-ACL = "system.posix_acl_access"
-USER, OTHER_USER = 12345, 23456
-
-
-def acl(*entries) -> bytes:
-    """Returns an access control list of entries (tag, rights, user or group)."""
-    return struct.pack("<I", 2) + b"".join(struct.pack("<HHI", *entry) for entry in entries)
-
-
-OWNED_BY_OTHERS = acl(
-    (1, 6, 2**32 - 1),
-    (2, 4, OTHER_USER),
-    (4, 4, 2**32 - 1),
-    (16, 4, 2**32 - 1),
-    (32, 0, 2**32 - 1),
-)
+from testing import ARCHIVE, OTHER, PROGRAM, SAME, TEXT, TWICE, XML, Case
 
 
 class Canonicalise(Case):
@@ -38,15 +15,7 @@ class Canonicalise(Case):
 
     def changing(self, line: str) -> dict:
         """Returns an environment in which the program does what the line says before it answers."""
-        script = f'#!/bin/sh\n{line}\nexec {shlex.quote(PROGRAM)} "$@"\n'
-        self.put("bin/program", script.encode()).chmod(0o755)
-        return {**self.environment, "PLISTCONV": str(self.folder / "bin" / "program")}
-
-    def patched(self, lines: str, *words, status=0) -> bytes:
-        """Runs the command after these lines of Python, and returns its messages."""
-        tool = str(TOOLS / "plistconv-canonicalise")
-        code = f"import os, runpy, sys\n{lines}\nsys.argv[0] = {tool!r}\nrunpy.run_path({tool!r}, run_name='__main__')"
-        return self.call([sys.executable, "-B", "-c", code, *words], status).stderr
+        return self.program(f'{line}\nexec "$PROGRAM" "$@"')
 
     def test_files_become_canonical_and_keep_their_modes(self):
         names = []
@@ -59,92 +28,6 @@ class Canonicalise(Case):
             path = self.folder / name
             self.assertEqual(stat.S_IMODE(path.stat().st_mode), 0o640)
             self.call([PROGRAM, "check", name])
-
-    def owned(self, name: str, owner: int, group: int, mode: int) -> Path:
-        """Makes a file of this owner and group."""
-        path = self.put(name, TEXT)
-        try:
-            os.chown(str(path), owner, group)
-        except OSError:
-            self.skipTest("skipped: owners cannot be changed here")
-        path.chmod(mode)
-        return path
-
-    def test_owner_and_group_are_kept_if_the_system_allows_it(self):
-        path = self.owned("a", USER, OTHER_USER, 0o4750)
-        self.prints(b"", "canonicalise", "a")
-        after = path.stat()
-        self.assertEqual(
-            (after.st_uid, after.st_gid, stat.S_IMODE(after.st_mode)), (USER, OTHER_USER, 0o4750)
-        )
-
-    def test_file_whose_owner_or_group_cannot_be_kept_is_left_unless_forced(self):
-        no_owner = (
-            "old = os.fchown\ndef fchown(file, owner, group):\n    if owner != -1: raise PermissionError(1, 'no')\n"
-            "    old(file, owner, group)\nos.fchown = fchown"
-        )
-        none = "def fchown(*_): raise PermissionError(1, 'no')\nos.fchown = fchown"
-        for lines, lost, owners in (
-            (no_owner, "owner", (os.geteuid(), OTHER_USER)),
-            (none, "owner and group", (os.geteuid(), os.getegid())),
-        ):
-            path = self.owned("a", USER, OTHER_USER, 0o6755)
-            before = path.stat().st_ino, path.stat().st_ctime_ns
-            said = self.patched(lines, "a", status=1)
-            self.assertIn(
-                f"a: its {lost} cannot be kept (--force replaces it); left as it is".encode(), said
-            )
-            self.assertEqual((path.stat().st_ino, path.stat().st_ctime_ns), before)
-            self.assertEqual((path.read_bytes(), self.left()), (TEXT, ["a"]))
-            said = self.patched(lines, "--force", "a")
-            for what in lost.split(" and "):
-                self.assertIn(f"a: replaced without its {what}\n".encode(), said)
-            after = path.stat()
-            self.assertEqual((after.st_uid, after.st_gid), owners)
-            self.assertEqual(
-                (stat.S_IMODE(after.st_mode), path.read_bytes()), (0o755, self.canonical(TEXT))
-            )
-        # The owner of a file system without owners is always the same.
-        self.put("b", TEXT)
-        self.assertEqual(self.patched(none, "b"), b"")
-
-    def attributes(self, path, **set_to) -> dict:
-        """Sets extended attributes of a file and returns all of them."""
-        if not hasattr(os, "setxattr"):
-            self.skipTest("skipped: there are no extended attributes")
-        try:
-            for name, value in set_to.items():
-                os.setxattr(str(path), name.replace("_of_", "."), value)
-        except OSError:
-            self.skipTest("skipped: no extended attributes here")
-        return {name: os.getxattr(str(path), name) for name in os.listxattr(str(path))}
-
-    def test_extended_attributes_are_kept_or_named(self):
-        path = self.put("a", TEXT)
-        before = self.attributes(path, user_of_comment=b"\0one", user_of_empty=b"")
-        self.prints(b"", "canonicalise", "a")
-        self.assertEqual(self.attributes(path), before)
-        path.write_bytes(TEXT)
-        said = self.patched(
-            "def fails(*_): raise PermissionError(1, 'no')\nos.setxattr = fails", "a"
-        )
-        for name in ("comment", "empty"):
-            self.assertIn(
-                f"a: replaced without its extended attribute user.{name}\n".encode(), said
-            )
-        self.assertEqual((path.read_bytes(), self.attributes(path)), (self.canonical(TEXT), {}))
-
-    def test_access_control_lists_are_kept_and_those_of_the_folder_not_taken(self):
-        path = self.put("a", TEXT)
-        self.attributes(path, system_of_posix_acl_access=OWNED_BY_OTHERS)
-        self.prints(b"", "canonicalise", "a")
-        self.assertEqual(self.attributes(path), {ACL: OWNED_BY_OTHERS})
-        self.assertEqual(stat.S_IMODE(path.stat().st_mode), 0o640)
-        path = self.put("b", TEXT)
-        path.chmod(0o640)
-        os.setxattr(str(self.folder), "system.posix_acl_default", OWNED_BY_OTHERS)
-        self.prints(b"", "canonicalise", "b")
-        self.assertEqual((self.attributes(path), stat.S_IMODE(path.stat().st_mode)), ({}, 0o640))
 
     def test_file_that_changes_meanwhile_is_left(self):
         path = self.put("a", TEXT)
@@ -171,34 +54,6 @@ class Canonicalise(Case):
             env=self.changing("echo >> a"),
         )
         self.assertEqual(path.read_bytes().rstrip(b"\n") + b"\n", TEXT)
-
-    def test_what_killed_commands_left_is_removed_after_a_day(self):
-        day = 24 * 60 * 60
-        for name, age in (
-            (".plistconv-abcd_123", day + 60),
-            (".plistconv-abcd_124", day - 60),
-            (".plistconv-x", 9 * day),
-            (".plistconv-abcd_1234", 9 * day),
-            ("x.plistconv-abcd_123", 9 * day),
-        ):
-            path = self.put(name, b"half")
-            os.utime(str(path), (time.time() - age, time.time() - age))
-        self.put(".plistconv-folder__/a", self.canonical(TEXT))
-        os.utime(str(self.folder / ".plistconv-folder__"), (0, 0))
-        self.put("a", self.canonical(TEXT))
-        self.prints(b"", "canonicalise", "a")
-        self.assertEqual(
-            self.left(),
-            [
-                ".plistconv-abcd_1234",
-                ".plistconv-abcd_124",
-                ".plistconv-folder__",
-                ".plistconv-folder__/a",
-                ".plistconv-x",
-                "a",
-                "x.plistconv-abcd_123",
-            ],
-        )
 
     def test_canonical_files_are_not_touched(self):
         before = self.put("a", self.canonical(TEXT)).stat()
@@ -335,6 +190,7 @@ class Canonicalise(Case):
         )
         for name in (".", "none/out", "dangling", "link", ""):
             self.refuses(f"{name}: ", "canonicalise", "-o", name, "a")
+        self.refuses(": No such file or directory; not written", "canonicalise", "-o", "", "a")
         self.refuses("with -o there is one FILE", "canonicalise", "-o", "out", "a", "a", status=2)
         limit = lambda: resource.setrlimit(resource.RLIMIT_FSIZE, (16, 16))  # noqa: E731
         for name in ("out", "new"):
@@ -364,22 +220,6 @@ class Canonicalise(Case):
         limit = lambda: resource.setrlimit(resource.RLIMIT_FSIZE, (16, 16))  # noqa: E731
         self.refuses("a: File too large; left as it is", "canonicalise", "a", preexec_fn=limit)
         self.assertEqual((path.read_bytes(), self.left()), (TEXT, ["a"]))
-
-    def test_signal_leaves_the_file_as_it_was_and_nothing_beside_it(self):
-        path = self.put("a", TEXT)
-        for name, status in (("SIGTERM", 143), ("SIGINT", 130), ("SIGHUP", 129)):
-            said = self.patched(
-                f"import signal\nos.fsync = lambda file: os.kill(os.getpid(), signal.{name})",
-                "a",
-                status=status,
-            )
-            self.assertEqual((said, path.read_bytes(), self.left()), (b"", TEXT, ["a"]))
-        renamed = (
-            "import signal\nold = os.replace\ndef replace(*names):\n    old(*names)\n"
-            "    os.kill(os.getpid(), signal.SIGTERM)\nos.replace = replace"
-        )
-        self.assertEqual(self.patched(renamed, "a", status=143), b"")
-        self.assertEqual((path.read_bytes(), self.left()), (self.canonical(TEXT), ["a"]))
 
 
 if __name__ == "__main__":

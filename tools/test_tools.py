@@ -94,16 +94,6 @@ class EveryCommand(Case):
                     input=TEXT,
                 )
 
-    def test_a_program_that_fails_is_status_2(self):
-        for body in ("exit 3", "kill -9 $$", "exit 2"):
-            script = self.put("program", f"#!/bin/sh\n{body}\n".encode())
-            script.chmod(0o755)
-            env = {**self.environment, "PLISTCONV": str(script)}
-            for name in ("canonicalise", "digest", "diff", "textconv"):
-                self.refuses(
-                    "program ended with status", name, *WORDS[name], status=2, env=env, input=TEXT
-                )
-
     def test_full_device_for_output_is_status_2_and_said(self):
         if not os.path.exists("/dev/full"):
             self.skipTest("skipped: there is no /dev/full")
@@ -209,6 +199,8 @@ class EveryCommand(Case):
             env = {**self.environment, "PLISTCONV_PRINT_LIMIT": str(limit)}
             self.tool("diff", "a", "other", status=status, env=env)
             self.prints(b"", "diff", "a", "a", env=env)
+        env = {**self.environment, "PLISTCONV_PRINT_LIMIT": ""}  # as if it was not set
+        self.tool("diff", "a", "other", status=1, env=env)
         env = {**self.environment, "PLISTCONV_PRINT_LIMIT": "1 GB"}
         self.refuses(
             "PLISTCONV_PRINT_LIMIT is no number of bytes: 1 GB", "textconv", "a", status=2, env=env

@@ -100,6 +100,20 @@ class Case(unittest.TestCase):
         self.assertIn(said.encode(), run.stderr, (name, words))
         self.assertEqual(run.stdout, printed, (name, words))
 
+    def program(self, script: str) -> dict[str, str]:
+        """Returns an environment with this shell script as the program. In it "$PROGRAM" is the
+        real one."""
+        head = f"#!/bin/sh\nPROGRAM={shlex.quote(PROGRAM)}\n"
+        path = self.put("bin/program", f"{head}{script}\n".encode())
+        path.chmod(0o755)
+        return {**self.environment, "PLISTCONV": str(path)}
+
+    def patched(self, lines: str, *words, status=0, tool="canonicalise", **more) -> bytes:
+        """Runs a command after these lines of Python, and returns its messages."""
+        path = str(TOOLS / f"plistconv-{tool}")
+        code = f"import os, runpy, sys\n{lines}\nsys.argv[0] = {path!r}\nrunpy.run_path({path!r}, run_name='__main__')"
+        return self.call([sys.executable, "-B", "-c", code, *words], status, **more).stderr
+
     def canonical(self, octets: bytes) -> bytes:
         """Returns the canonical file of a property list."""
         return self.call([PROGRAM], input=octets).stdout

@@ -1,0 +1,143 @@
+"""Tests that a signal ends a command at once: nothing else is done, and nothing is left."""
+from __future__ import annotations
+
+import os
+import select
+import signal
+import unittest
+
+from testing import OTHER, TEXT, Case
+
+SIGNALS = [
+    f"SIG{name}"
+    for name in ("TERM", "INT", "HUP", "QUIT", "ALRM", "USR1", "USR2", "VTALRM", "PROF", "XCPU")
+]
+# Sends the signal at the step AT: before and after each call that writes, or opens a file.
+STEPS = """
+import signal, threading
+count = 0
+def step():
+    global count
+    count += 1
+    if count == AT:
+        os.kill(os.getpid(), signal.NAME)
+        if threading.current_thread() is not threading.main_thread():
+            threading.Event().wait()
+def stepping(old):
+    def call(*words, **more):
+        step()
+        made = old(*words, **more)
+        step()
+        return made
+    return call
+for name in ("open", "write", "fchown", "fchmod", "setxattr", "removexattr", "fsync", "replace", "unlink"):
+    if hasattr(os, name):
+        setattr(os, name, stepping(getattr(os, name)))
+"""
+READY = "read line"  # The program has begun once it gets its input.
+COUNT = "import atexit\natexit.register(lambda: sys.stderr.write(str(count)))\n"
+
+
+class Signals(Case):
+    """Commands that are ended by a signal."""
+
+    def setUp(self):
+        super().setUp()
+        self.old, self.made = TEXT, self.canonical(TEXT)
+
+    def contents(self) -> list:
+        """Makes sure that nothing is left beside the files, and returns which are canonical."""
+        self.assertEqual(self.left(), ["a", "b"])
+        contents = [(self.folder / name).read_bytes() for name in ("a", "b")]
+        for octets in contents:
+            self.assertIn(octets, (self.old, self.made))
+        return [octets == self.made for octets in contents]
+
+    def restore(self) -> None:
+        """Makes the files as they were."""
+        for name in ("a", "b"):
+            path = self.put(name, self.old)
+            try:
+                os.setxattr(str(path), "user.comment", b"kept")
+            except (AttributeError, OSError):
+                pass
+
+    def test_signal_at_each_call_leaves_whole_files_and_nothing_beside_them(self):
+        self.restore()
+        count = int(self.patched(STEPS.replace("AT", "0") + COUNT, "a", "b"))
+        self.assertGreater(count, 20)
+        states = []
+        for at in range(1, count + 1):
+            self.restore()
+            name = SIGNALS[at % len(SIGNALS)]
+            lines = STEPS.replace("AT", str(at)).replace("NAME", name)
+            said = self.patched(lines, "a", "b", status=128 + getattr(signal, name))
+            self.assertEqual(said, b"", (at, name))
+            states.append(self.contents())
+        # What follows a step is not done.
+        self.assertEqual(states, sorted(states))
+        self.assertEqual(
+            [state for state in ([False, False], [True, False], [True, True]) if state in states],
+            [[False, False], [True, False], [True, True]],
+        )
+
+    def test_every_signal_leaves_the_file_as_it_was_and_nothing_beside_it(self):
+        for name in SIGNALS:
+            self.restore()
+            lines = f"import signal\nos.fsync = lambda file: os.kill(os.getpid(), signal.{name})"
+            said = self.patched(lines, "a", "b", status=128 + getattr(signal, name))
+            self.assertEqual((said, self.contents()), (b"", [False, False]), name)
+
+    def test_second_signal_while_the_first_one_is_handled(self):
+        self.restore()
+        lines = (
+            "import signal\nold = os.unlink\n"
+            "def unlink(*names):\n    os.unlink = old\n    os.kill(os.getpid(), signal.SIGINT)\n    old(*names)\n"
+            "os.unlink = unlink\nos.fsync = lambda file: os.kill(os.getpid(), signal.SIGTERM)"
+        )
+        self.assertEqual(self.patched(lines, "a", "b", status=130), b"")
+        self.assertEqual(self.contents(), [False, False])
+
+    def test_signal_while_the_program_runs_ends_both(self):
+        fifo = self.folder / "fifo"
+        for number, (tool, words) in enumerate(
+            (
+                ("canonicalise", ["a", "b"]),
+                ("canonicalise", ["-o", "a", "b"]),
+                ("digest", ["a"]),
+                ("diff", ["a", "c"]),
+                ("textconv", ["a"]),
+            )
+        ):
+            self.restore()
+            self.put("c", OTHER)
+            os.mkfifo(str(fifo))
+            reading = os.open(str(fifo), os.O_RDONLY | os.O_NONBLOCK)
+            name = SIGNALS[number]
+            env = self.program(f"exec 9> fifo\n{READY}\nkill -{name[3:]} $PPID\nexec sleep 300")
+            run = self.tool(tool, *words, status=128 + getattr(signal, name), env=env)
+            self.assertEqual((run.stdout, run.stderr), (b"", b""))
+            # The pipe is closed once no program runs that would write to it.
+            self.assertTrue(select.select([reading], [], [], 60)[0], tool)
+            self.assertEqual(os.read(reading, 1), b"")
+            os.close(reading)
+            for path in (fifo, self.folder / "bin" / "program", self.folder / "c"):
+                path.unlink()
+            (self.folder / "bin").rmdir()
+            self.assertEqual(self.contents(), [False, False])
+
+    def test_pipe_that_cannot_be_closed_does_not_hide_the_signal(self):
+        self.restore()
+        lines = (
+            "import subprocess\nold = subprocess.Popen.__exit__\n"
+            "def leave(self, kind, *rest):\n    old(self, kind, *rest)\n"
+            "    if kind is not None: raise BrokenPipeError(32, 'Broken pipe')\n"
+            "subprocess.Popen.__exit__ = leave"
+        )
+        env = self.program(f"{READY}\nkill -TERM $PPID\nexec sleep 300")
+        self.assertEqual(self.patched(lines, "a", "b", status=143, env=env), b"")
+        self.assertEqual((self.folder / "a").read_bytes(), self.old)
+
+
+if __name__ == "__main__":
+    unittest.main()
