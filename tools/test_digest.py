@@ -2,13 +2,14 @@
 from __future__ import annotations
 
 import hashlib
+import os
 import random
 import re
 import shutil
 import sys
 import unittest
 
-from testing import ARCHIVE, OTHER, PROGRAM, SAME, TEXT, TOOLS, TWICE, XML, Case
+from testing import ARCHIVE, OTHER, PROGRAM, SAME, TEXT, TOOLS, TOP, TWICE, XML, Case
 
 
 class Digest(Case):
@@ -114,6 +115,75 @@ class Digest(Case):
         digest = hashlib.sha256(self.canonical(TEXT)).hexdigest().encode()
         self.prints(digest + b"  -\n", "digest", "-", input=TEXT)
         self.prints(digest + b"  /dev/stdin\n", "digest", "/dev/stdin", input=TEXT)
+
+    def lines(self, *names) -> bytes:
+        """Returns the lines of these files, from a program for each alone."""
+        return b"".join(self.tool("digest", name).stdout for name in names)
+
+    def test_programs_run_at_the_same_time_and_lines_are_in_order(self):
+        self.put("first", b"{first;}")
+        self.put("second", b"{second;}")
+        wanted = self.lines("first", "second")
+        os.mkfifo(str(self.folder / "fifo"))
+        # The program for the first file waits until that for the second one has ended.
+        env = self.program(
+            'cat > "$0.$$"\n'
+            'if grep -q first "$0.$$"; then timeout 60 cat fifo || exit 3; else exec 9> fifo; fi\n'
+            'exec "$PROGRAM" "$@" < "$0.$$"'
+        )
+        with (self.folder / "printed").open("wb") as printed:
+            self.patched(
+                "os.cpu_count = lambda: 2",
+                "first",
+                "second",
+                tool="digest",
+                env=env,
+                stdout=printed,
+            )
+        self.assertEqual((self.folder / "printed").read_bytes(), wanted)
+
+    def test_many_files_have_their_lines_and_messages_in_order(self):
+        names = [str(number) for number in range(50)]
+        for name in names:
+            self.put(name, TWICE if name.endswith("3") else f"(a{name},b)".encode())
+        digests = [
+            (name, hashlib.sha256(self.canonical((self.folder / name).read_bytes())).hexdigest())
+            for name in names
+            if not name.endswith("3")
+        ]
+        run = self.tool("digest", *names, status=1)
+        self.assertEqual(run.stdout.decode(), "".join(f"{sum}  {name}\n" for name, sum in digests))
+        self.assertEqual(
+            re.findall(rb"(?m)^plistconv-digest: (\d+): refused", run.stderr),
+            [b"3", b"13", b"23", b"33", b"43"],
+        )
+
+    def test_trouble_ends_the_run_after_the_lines_before_it(self):
+        names = [str(number) for number in range(20)]
+        for name in names:
+            self.put(name, f"(a{name},b)".encode())
+        wanted = self.lines("0", "1", "2")
+        env = self.program(
+            'cat > "$0.$$"\ngrep -q a3 "$0.$$" && exit 3\nexec "$PROGRAM" "$@" < "$0.$$"'
+        )
+        self.refuses("ended with status 3", "digest", *names, status=2, env=env, printed=wanted)
+
+    def test_lines_of_the_page_name_a_folder_that_is_not_there(self):
+        bash = shutil.which("bash")
+        if bash is None:
+            self.skipTest("skipped: there is no bash")
+        page = (TOP / "docs" / "RECIPES.md").read_text(encoding="utf-8")
+        lines = "\n".join(re.search(r"(?m)^    (digests\(\) .*)\n    (diff .*)$", page).groups())
+        for folders, said in (
+            ([], b"1c1\n< no Old.app\n---\n> no New.app\n"),
+            (["Old.app"], b"0a1\n> no New.app\n"),
+            (["Old.app", "New.app"], b""),
+        ):
+            for folder in folders:
+                (self.folder / folder).mkdir(exist_ok=True)
+            run = self.call([bash, "-c", lines], 1 if said else 0)
+            self.assertEqual(run.stdout, said)
+            self.assertEqual(bool(run.stderr), bool(said))
 
 
 class Diff(Case):
