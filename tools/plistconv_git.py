@@ -7,7 +7,7 @@ import re
 import shlex
 import subprocess
 import tempfile
-from contextlib import contextmanager
+from contextlib import contextmanager, suppress
 from typing import Callable, Iterable, Iterator
 
 import plistconv_tools as tools
@@ -111,18 +111,14 @@ class Git:
     @contextmanager
     def blobs(self) -> Iterator[Callable[[bytes], bytes]]:
         """Starts a process that reads blobs by their names."""
-        command = ["git", "cat-file", "--batch"]
-        with subprocess.Popen(
-            command, stdin=subprocess.PIPE, stdout=subprocess.PIPE, env=self.environment
-        ) as process:
+        command, pipe = ["git", "cat-file", "--batch"], subprocess.PIPE
+        with subprocess.Popen(command, stdin=pipe, stdout=pipe, env=self.environment) as process:
 
             def read(blob: bytes) -> bytes:
                 assert process.stdin is not None and process.stdout is not None
-                try:
+                with suppress(BrokenPipeError):  # Then there is no answer.
                     process.stdin.write(blob + b"\n")
                     process.stdin.flush()
-                except BrokenPipeError:
-                    pass  # Then there is no answer.
                 about = process.stdout.readline().split()
                 if len(about) != 3:
                     raise tools.Trouble(f"git cat-file does not read {blob.decode()}")
@@ -152,11 +148,8 @@ def line_of(name: str, attributes: list[str]) -> str:
 def as_escapes(octets: bytes, ends: str) -> str:
     """Returns bytes as one line of ASCII, with escapes for all that is not printable, and for
     these characters."""
-    named = {9: r"\t", 10: r"\n", 13: r"\r", **{ord(end): f"\\{end}" for end in ends}}
-    return "".join(
-        named.get(octet) or (chr(octet) if 32 <= octet < 127 else f"\\{octet:03o}")
-        for octet in octets
-    )
+    parts = (chr(octet) if 32 <= octet < 127 else f"\\{octet:03o}" for octet in octets)
+    return "".join(f"\\{part}" if part in ends else part for part in parts)
 
 
 def word(name: str) -> str:

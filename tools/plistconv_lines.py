@@ -48,14 +48,11 @@ class Lines(difflib.SequenceMatcher):
                 continue
             anchors = self.anchors(first, last, begin, end)
             if anchors:
-                starts = [(first, begin), *anchors]
-                parts.extend(
-                    (i, k, j, m) for (i, j), (k, m) in zip(starts, [*anchors, (last, end)])
-                )
+                pairs = zip([(first, begin), *anchors], [*anchors, (last, end)])
+                parts.extend((i, k, j, m) for (i, j), (k, m) in pairs)
             elif (last - first) * (end - begin) <= MOST:
-                matcher = difflib.SequenceMatcher(
-                    None, self.old[first:last], self.new[begin:end], autojunk=False
-                )
+                parted = self.old[first:last], self.new[begin:end]
+                matcher = difflib.SequenceMatcher(None, *parted, autojunk=False)
                 for i, j, size in matcher.get_matching_blocks():
                     found.extend((first + i + n, begin + j + n) for n in range(size))
         return found
@@ -91,9 +88,8 @@ def unified(old: list[bytes], new: list[bytes], names: tuple[str, str]) -> bytes
     """Returns the unified diff of two texts, which is empty if they are the same."""
     printed = [f"--- {names[0]}\n+++ {names[1]}\n".encode()]
     for group in Lines(old, new).get_grouped_opcodes(CONTEXT):
-        printed.append(
-            f"@@ -{span(group[0][1], group[-1][2])} +{span(group[0][3], group[-1][4])} @@\n".encode()
-        )
+        spans = span(group[0][1], group[-1][2]), span(group[0][3], group[-1][4])
+        printed.append(f"@@ -{spans[0]} +{spans[1]} @@\n".encode())
         for kind, first, last, begin, end in group:
             if kind == "equal":
                 printed.extend(b" " + line for line in old[first:last])

@@ -73,18 +73,14 @@ class Object:
         """Returns what the marker says, in words."""
         if not self.is_known():
             return "an unknown marker"
-        if self.kind in COUNTED:
-            what, unit, _ = COUNTED[self.kind]
-            if self.count is None:
-                return f"{what} {unit}s, whose count cannot be read"
-            return f"{what} {self.count} {unit}" + ("" if self.count == 1 else "s")
-        if self.kind == 1:
-            return f"an integer of {self.end - self.start} byte" + (
-                "" if self.marker == 0x10 else "s"
-            )
-        return NAMES.get(self.marker) or f"a UID of {self.end - self.start} byte" + (
-            "" if self.count == 0 else "s"
-        )
+        if self.marker in NAMES:
+            return NAMES[self.marker]
+        other = ("an integer of" if self.kind == 1 else "a UID of", "byte", 1)
+        what, unit, _ = COUNTED.get(self.kind, other)
+        if self.count is None:
+            return f"{what} {unit}s, whose count cannot be read"
+        many = self.count if self.kind in COUNTED else self.end - self.start
+        return f"{what} {many} {unit}" + ("" if many == 1 else "s")
 
 
 class Binary:
@@ -202,11 +198,9 @@ class Binary:
             key = self.object(number)
             text = self.text(key, left)
             left -= 2 * len(text or "")
-            if text in pairs and left > 0:
+            if text is not None and left > 0 and pairs.setdefault(text, pair) != pair:
                 step = self.key_step(key, pair)
                 return [f"the pairs {pairs[text]} and {pair} have the same key: {step}"]
-            if text is not None:
-                pairs[text] = pair
         return []
 
 
