@@ -32,8 +32,7 @@ class Git:
         self.top = b"" if self.is_bare else self.call("rev-parse", "--show-cdup")[:-1]
 
     def call(self, *words: str, given: bytes = b"", also: int = 0, has_index: bool = True) -> bytes:
-        """Returns the output of git, whose status is 0 or `also`. Its error messages go to standard
-        error."""
+        """Returns the output of git, whose status must be 0 or `also`. Its error messages show."""
         variables = {**self.environment, **({} if has_index else NO_INDEX)}
         try:
             run = subprocess.run(
@@ -61,8 +60,7 @@ class Git:
         return os.path.join(self.top, name)
 
     def files(self, tree: str, *names: str) -> dict[bytes, bytes]:
-        """Returns the regular files of a tree, or those of these names, with the names of their
-        blobs."""
+        """Returns the regular files of a tree, or of these names, and the names of their blobs."""
         entries = self.fields("ls-tree", "-r", "-z", "--full-tree", "--", tree, *names)
         rows = (re.fullmatch(rb"(?s)(\d+) \w+ (\w+)\t(.*)", entry) for entry in entries)
         return {row[3]: row[2] for row in rows if row and row[1] in PLAIN}
