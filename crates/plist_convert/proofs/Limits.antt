@@ -142,13 +142,9 @@ unknown_before path None m may unknown = refl
 unknown_before path (Some old) None may unknown = absurd may
 unknown_before path (Some old) (Some mid) may unknown = absurd cc
 
--- the error of a file that is not created or written
-pub device_blamed : (files : Option Files) (error : Error) → NeedsMemory files error → BlamesDevice files error
-device_blamed None error other = λ _. other
-device_blamed (Some at) error memory = λ unknown. absurd cc
-
-pub device_blamed_after : (path : FileName) (f m : Option Files) (error : Error) → MayEmpty path f m → NeedsMemory f error → BlamesDevice m error
-device_blamed_after path f m error may memory = λ unknown. device_blamed f error memory (unknown_before path f m may unknown)
+-- the error of a file that is not created
+pub blamed_after : (path : FileName) (f m : Option Files) (error : Error) → MayEmpty path f m → NeedsMemory f error → BlamesDevice m error
+blamed_after path f m error may needs = λ unknown. needs.1 (unknown_before path f m may unknown)
 
 pub filled_same : (f m : Option Files) (limit place : ℕ) (error : Error) → SameFiles f m → limit ≡ place → IsUnwritten m limit (Some []) error
     → error_kind error ≢ kind.OutOfMemory → IsFilled place (held_by f None)

@@ -37,15 +37,15 @@ HasWritten files contents octets = IfSome files (λ _. contents ≡ Some octets)
 abbrev pub IsNew : Option Files → Option (List ℕ) → Type 0
 IsNew files contents = HasWritten files contents []
 
--- why a file is not created or written: out of memory if the opener knows the files, else another
--- cause
-abbrev pub NeedsMemory : Option Files → Error → Type 0
-NeedsMemory None error = error_kind error ≢ kind.OutOfMemory
-NeedsMemory (Some at) error = error_kind error ≡ kind.OutOfMemory
-
--- the error is out of memory only if the opener knows the files
+-- the error is not out of memory, if the opener does not know the files
 abbrev pub BlamesDevice : Option Files → Error → Type 0
 BlamesDevice files error = files ≡ None → error_kind error ≢ kind.OutOfMemory
+
+-- why a file is not created or written: out of memory if the opener knows the files, and otherwise
+-- another cause
+abbrev pub NeedsMemory : Option Files → Error → Type 0
+NeedsMemory files error =
+    IfSome files (λ _. error_kind error ≡ kind.OutOfMemory) × BlamesDevice files error
 
 -- these bytes, if they are known, are no more than this
 abbrev pub IsWithin : ℕ → Option (List ℕ) → Type 0
