@@ -14,23 +14,21 @@ use std::fs;
 use std::hash::{BuildHasher, FoldHasher};
 use std::test::Fail;
 
-// Builds the fixed hashers, and counts them.
+// Builds copies of a hasher, and counts them.
 #[derive(Clone, Copy)]
 struct Counting<'a> {
-    fixed: FixedHasher,
+    hasher: FoldHasher,
     built: &'a Cell<u64>,
 }
 
 impl BuildHasher for Counting<'_> {
-    ghost use Rattle.std.specs.Hash.BuildHasherDefault.{initial_hasher};
-
     type Hasher = FoldHasher;
 
-    ghost build_hasher = { λ builder. initial_hasher builder.fixed };
+    ghost build_hasher = { λ builder. builder.hasher };
 
     fn build_hasher(&self) -> FoldHasher {
         self.built.set(self.built.get().saturating_add(1));
-        self.fixed.build_hasher()
+        self.hasher
     }
 }
 
@@ -141,7 +139,7 @@ fn each_call_hashes_by_its_builder(rt: HostRuntime) -> Result<(), Fail> {
     for call in CALLS {
         let built = Cell::new(0);
         let counting = Counting {
-            fixed: FixedHasher::new(),
+            hasher: FixedHasher::new().build_hasher(),
             built: &built,
         };
         make(&rt, call, counting)?;
