@@ -19,7 +19,7 @@ use Rattle.plist_forms.specs.Sent.{answer_of}
 use Rattle.plist_forms.specs.Transfer.{Writes}
 use Rattle.plist_convert.specs.FileDisk.{IsFull, IsFullAt, told}
 use Rattle.plist_convert.specs.Files.{CountsFailure, FileName, Files, IsStored, SameFiles, Stores}
-use Rattle.plist_convert.specs.Opens.{BlamesDevice, IsFilled, IsUnwritten, IsWithin, MayEmpty, NeedsMemory, StaysWithin, held_by, is_begun}
+use Rattle.plist_convert.specs.Opens.{IsFilled, IsUnwritten, IsWithin, MayEmpty, StaysWithin, held_by, is_begun}
 
 -- no refusal of the bytes is a failure of the device
 no_device : (form : Form) (octets : List ℕ) (sent : ℕ) → IsOutputFault form octets (WriteFailed sent) → ⊥
@@ -141,10 +141,6 @@ pub unknown_before : (path : FileName) (f m : Option Files) → MayEmpty path f 
 unknown_before path None m may unknown = refl
 unknown_before path (Some old) None may unknown = absurd may
 unknown_before path (Some old) (Some mid) may unknown = absurd cc
-
--- the error of a file that is not created
-pub blamed_after : (path : FileName) (f m : Option Files) (error : Error) → MayEmpty path f m → NeedsMemory f error → BlamesDevice m error
-blamed_after path f m error may needs = λ unknown. needs.1 (unknown_before path f m may unknown)
 
 pub filled_same : (f m : Option Files) (limit place : ℕ) (error : Error) → SameFiles f m → limit ≡ place → IsUnwritten m limit (Some []) error
     → error_kind error ≢ kind.OutOfMemory → IsFilled place (held_by f None)
