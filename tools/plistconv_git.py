@@ -1,5 +1,4 @@
-"""Asks git about the tree that a commit would have, with names taken literally
-and not as patterns."""
+"""Asks git about the tree that a commit would have, with names taken literally."""
 from __future__ import annotations
 
 import os
@@ -16,13 +15,13 @@ PLAIN = (b"100644", b"100755")  # modes of regular files, not of links and submo
 ENCODING = "working-tree-encoding"
 ATTRIBUTES = ("plistconv", "text", "crlf", "eol", "ident", ENCODING)
 CHANGING = {"text": ("set", "input"), "crlf": ("set", "input"), "eol": ("lf", "crlf")}
-# With these git reads attributes from info/attributes and core.attributesFile alone.
+# With these git reads attributes from info/attributes and its input alone.
+BY_INPUT = ("-c", "core.attributesFile=/dev/stdin")
 NO_INDEX = {"GIT_INDEX_FILE": "/nonexistent/index", "GIT_ATTR_NOSYSTEM": "1"}
 
 
 class Git:
-    """Calls git in the current folder, so that relative paths in its variables
-    keep their meaning."""
+    """Calls git in the current folder, since its variables may have relative paths."""
 
     def __init__(self) -> None:
         kept = {name: os.environ[name] for name in os.environ if not name.endswith("_PATHSPECS")}
@@ -77,34 +76,33 @@ class Git:
     def attributes(self, names: list[bytes]) -> list[dict[str, str]]:
         """Returns the attributes of files by the .gitattributes of the index."""
         given = b"".join(self.path(name) + b"\0" for name in names)
-        printed = self.call("check-attr", "--cached", "--stdin", "-z", *ATTRIBUTES, given=given)
-        values = (value.decode("utf-8", "replace") for value in printed.split(b"\0")[2::3])
-        return [dict(zip(ATTRIBUTES, row)) for row in zip(*[values] * len(ATTRIBUTES))]
+        return rows(self.call("check-attr", "--cached", "--stdin", "-z", *ATTRIBUTES, given=given))
 
-    def source(self, tree: str, name: str, wanted: list[str]) -> tuple[str, str]:
-        """Returns which file gives a file one of the attributes, and the name of the latter from
+    def sources(self, tree: str, wanted: dict[str, list[str]]) -> dict[str, tuple[str, str]]:
+        """Returns for each file which file gives it one of the attributes wanted, and its name from
         there: info/attributes, or the deepest .gitattributes of the tree, or that at the top."""
-        if self.gives(b"", name, wanted):
-            info = os.fsdecode(self.call("rev-parse", "--git-path", "info/attributes")[:-1])
-            return os.path.relpath(info, os.fsdecode(self.top) or "."), name
-        parts = name.split("/")
-        paths = ["/".join([*parts[:depth], ".gitattributes"]) for depth in range(len(parts))]
-        blobs = self.files(tree, *paths)
-        found, macros = (paths[0], name), b""
-        for depth, path in enumerate(paths):
-            if os.fsencode(path) in blobs:
-                lines = self.call("cat-file", "blob", blobs[os.fsencode(path)].decode())
-                macros = macros or b"".join(re.findall(rb"(?m)^\[attr].*\n", lines))
-                below = "/".join(parts[depth:])
-                found = (path, below) if self.gives(macros + lines, below, wanted) else found
+        if not wanted:
+            return {}
+        found = {name: (".gitattributes", name) for name in wanted}
+        folders = {name[: at + 1] for name in wanted for at, end in enumerate(name) if end == "/"}
+        paths = {f"{folder}.gitattributes": folder for folder in ["", *sorted(folders)]}
+        blobs, macros = self.files(tree, *paths), b""
+        info = os.fsdecode(self.call("rev-parse", "--git-path", "info/attributes")[:-1])
+        paths[os.path.relpath(info, os.fsdecode(self.top) or ".")] = ""
+        for path, folder in paths.items():
+            blob = blobs.get(os.fsencode(path))
+            if blob is None and path.endswith(".gitattributes"):
+                continue
+            lines = self.call("cat-file", "blob", blob.decode()) if blob else b""
+            macros = macros or b"".join(re.findall(rb"(?m)^\[attr].*\n", lines))
+            below = {name: name[len(folder) :] for name in wanted if name.startswith(folder)}
+            names = [os.path.join(os.fsdecode(self.top), name) for name in below.values()]
+            words = [*BY_INPUT, "check-attr", "--cached", "-z", *ATTRIBUTES, "--", *names]
+            printed = self.call(*words, given=macros + lines, has_index=False)
+            for name, row in zip(below, rows(printed)):
+                if any(row[attribute] != "unspecified" for attribute in wanted[name]):
+                    found[name] = path, below[name]
         return found
-
-    def gives(self, lines: bytes, name: str, wanted: list[str]) -> bool:
-        """Returns whether info/attributes or these lines give a file one of the attributes."""
-        path = os.fsdecode(self.path(os.fsencode(name)))
-        words = "-c", "core.attributesFile=/dev/stdin", "check-attr", "--cached", "-z", *wanted
-        printed = self.call(*words, "--", path, given=lines, has_index=False)
-        return any(value != b"unspecified" for value in printed.split(b"\0")[2::3])
 
     @contextmanager
     def blobs(self) -> Iterator[Callable[[bytes], bytes]]:
@@ -123,6 +121,12 @@ class Git:
                 return process.stdout.read(int(about[2]) + 1)[:-1]
 
             yield read
+
+
+def rows(printed: bytes) -> list[dict[str, str]]:
+    """Returns the attributes of files that git check-attr printed."""
+    values = (value.decode("utf-8", "replace") for value in printed.split(b"\0")[2::3])
+    return [dict(zip(ATTRIBUTES, row)) for row in zip(*[values] * len(ATTRIBUTES))]
 
 
 def changing(attributes: dict[str, str]) -> list[str]:
@@ -144,8 +148,7 @@ def line_of(name: str, attributes: list[str]) -> str:
 
 
 def as_escapes(octets: bytes, ends: str) -> str:
-    """Returns bytes as one line of ASCII, with escapes for all that is not printable, and for
-    these characters."""
+    """Returns bytes as a line of ASCII, with escapes for these ends and what is not printable."""
     parts = (chr(octet) if 32 <= octet < 127 else f"\\{octet:03o}" for octet in octets)
     return "".join(f"\\{part}" if part in ends else part for part in parts)
 

@@ -1,5 +1,4 @@
-"""Reads the objects of a binary property list, which may be broken anywhere, and finds
-the paths to them."""
+"""Reads the objects of a binary property list, which may be broken, and finds paths to them."""
 from __future__ import annotations
 
 import json

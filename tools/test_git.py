@@ -100,7 +100,7 @@ class Install(Repository):
     def test_folder_of_hooks_that_others_use_is_named(self):
         inner = str(self.folder / "one" / "two")
         self.git("init", "-q", inner)
-        own = "plistconv-staged: {}: other repositories that use this folder run the hooks too\n"
+        own = "plistconv-staged: {}: other repositories with this folder run the hooks too\n"
         for path, is_shared in (
             (str(self.folder / "hooks"), True),
             ("../../hooks", True),
@@ -118,6 +118,7 @@ class Install(Repository):
             (b"#!/usr/bin/env python3\n", 0o755, "is no shell script"),
             (b"\x7fELF", 0o755, "is no shell"),
             (b"#!/bin/sh\n", 0o644, "cannot be run, so git ignores it"),
+            (b"#!/bin/sh\nplistconv-staged || exit 1\n", 0o644, "cannot be run, so git"),
             (b"", 0o755, "is no shell"),
             (b"#!/bin/sh\r\nexit\r\n", 0o755, "is no shell script"),
         ):

@@ -165,7 +165,7 @@ class Staged(Repository):
         calls = self.folder / "calls"
         run = self.tool("staged", status=1, env={**self.environment, "CALLS": str(calls)})
         self.assertEqual(run.stderr.count(b": an OpenStep text"), 40)
-        self.assertLess(len(calls.read_bytes().split()), 11)
+        self.assertLess(len(calls.read_bytes().split()), 12)
         self.assertEqual(calls.read_bytes().split().count(b"cat-file"), 1)
 
     def test_texts_that_people_keep_are_checked_only_if_asked_for(self):
