@@ -1,7 +1,7 @@
 #!/usr/bin/env bash
 # Tests arguments that the tests of the crates cannot pass: PLISTCONV=./plistconv scripts/words.sh
-# - One that is not UTF-8 ends with status 3 and one line, and changes no file. Files with such names can be standard
-#   input or output.
+# - One that is not UTF-8 ends with status 3 and one line that names it, and changes no file. Files with such names can be
+#   standard input or output.
 # - With many paths there is a line for each, and the status of the last.
 # - Standard input is left to who gave it, but for a path that names it, which is read once.
 set -eu
@@ -33,23 +33,28 @@ printed=$(printf '{a=b;a=c;}' | "$PLISTCONV" lint /dev/stdin) || true
 named=$(printf 'caf\351.plist')
 cp plain.plist "$named" || { echo 'words: skipped, no file here has such a name'; exit 77; }
 
-refused() { # WORD..
+refused() { # LINE WORD..
     status=0
-    printed=$("$PLISTCONV" "$@") || status=$?
-    [ "$status" = 3 ] || { echo "status $status in place of 3: $*" >&2; exit 1; }
-    [ "$printed" = 'error: a word is not UTF-8' ] || { echo "printed '$printed': $*" >&2; exit 1; }
+    printed=$("$PLISTCONV" "${@:2}") || status=$?
+    [ "$status" = 3 ] || { echo "status $status in place of 3: ${*:2}" >&2; exit 1; }
+    [ "$printed" = "error: $1" ] || { echo "printed '$printed': ${*:2}" >&2; exit 1; }
 }
-refused "$named"
-refused lint "$named"
-refused check "$named"
-refused lint plain.plist "$named"
-refused check "$named" plain.plist
-refused same plain.plist "$named"
-refused same "$named" plain.plist
-refused convert binary1 "$named" made
-refused convert binary1 plain.plist "$named"
-refused convert openstep "$named" "$named"
-refused "$(printf 'l\355nt')" plain.plist
+told='is not UTF-8: caf\xe9.plist'
+refused "argument 1 $told" "$named"
+refused "argument 2 $told" lint "$named"
+refused "argument 2 $told" check "$named"
+refused "argument 3 $told" lint plain.plist "$named"
+refused "argument 2 $told" check "$named" plain.plist
+refused "argument 3 $told" same plain.plist "$named"
+refused "argument 2 $told" same "$named" plain.plist
+refused "argument 3 $told" convert binary1 "$named" made
+refused "argument 4 $told" convert binary1 plain.plist "$named"
+refused "argument 3 $told" convert openstep "$named" "$named"
+refused 'argument 1 is not UTF-8: l\xednt' "$(printf 'l\355nt')" plain.plist
+refused 'argument 2 is not UTF-8: \x1b[2J\n\\\xff' lint "$(printf '\033[2J\n\\\377')"
+long=$(printf 'x%.0s' $(seq 5000))
+refused "argument 3 $told" lint plain.plist "$named" "$long"
+refused 'an argument is not UTF-8' lint "$long" "$named"
 cmp plain.plist "$named"
 [ ! -e made ] || { echo "a file was made" >&2; exit 1; }
 

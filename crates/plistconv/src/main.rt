@@ -2,8 +2,10 @@
 //! standard output.
 #![tactic(auto)]
 
-ghost use Rattle.std.specs.Prelude.{◌≡◌, ◌≢◌, ◌⊎◌, ℕ, IfErr, IfOk, List, map, string_bytes};
+ghost use Rattle.std.specs.Prelude.{◌≡◌, ◌≢◌, ◌⊎◌, ℕ, IfErr, IfOk, IfSome, IsTrue, List};
+ghost use Rattle.std.specs.Prelude.{codes, map, nat_eq, string_bytes};
 ghost use Rattle.std.specs.IoError.{error_kind};
+ghost use Rattle.std.specs.List.{starts_with};
 ghost use Rattle.plist_convert.specs.Ending.{Prints, no_memory};
 ghost use Rattle.plist_convert.specs.Explaining.{IsExplanation};
 ghost use Rattle.plist_convert.specs.Program.{IsHostRun};
@@ -12,6 +14,7 @@ use plist_convert::{Status, Stream, put_all, run_to_end};
 use std::alloc::{AllocError, Global};
 use std::io::{ErrorKind, Read, Write};
 use std::process::ExitCode;
+use std::rt::Env;
 use std::{env, io};
 
 fn main(rt: HostRuntime) -> ExitCode {
@@ -49,11 +52,9 @@ fn status<I: Read, O: Write>(
 {
     match arguments {
         Ok(arguments) => obey(rt, arguments.as_slice(), input, output),
-        Err(error) if error.kind() != ErrorKind::OutOfMemory => refuse(
-            output,
-            "error: a word is not UTF-8\n",
-            Status::BadWords.code(),
-        ),
+        Err(error) if error.kind() != ErrorKind::OutOfMemory => {
+            refuse_words(rt.alloc(), rt, output)
+        }
         Err(_) => ended(output, Err(AllocError)),
     }
 }
@@ -95,6 +96,54 @@ fn answer<I: Read, O: Write>(
     let alloc = rt.alloc();
     let words = borrowed(alloc, arguments)?;
     Ok(run_to_end(rt, alloc, words.as_slice(), input, output))
+}
+
+// Prints a line for arguments that are not all UTF-8 and returns the exit status, or 4 if the line
+// cannot be printed. The line names the first of them, if there is memory for that.
+fn refuse_words<E: Env, O: Write>(alloc: Global, env: &E, output: &mut O) -> u8
+    ensures { (text : List ℕ) × IsExplanation 3 text × ((failures : ℕ)
+        × Prints (O.contents output.old) (O.contents output.new) 0 failures
+        (record { text = text; status = 3 }) result) }
+{
+    let found = bad_word(alloc, env);
+    let line = match &found {
+        Ok(Some(line)) => line.as_str(),
+        _ => "error: an argument is not UTF-8\n",
+    };
+    refuse(output, line, Status::BadWords.code())
+}
+
+// Returns the line for the first argument that is not UTF-8, if it has at most 4,096 bytes. The
+// program's name is argument 0.
+fn bad_word<E: Env>(alloc: Global, env: &E) -> Result<Option<String>, AllocError>
+    ensures { IfOk result (λ found. IfSome found (λ line.
+        IsTrue (starts_with nat_eq (string_bytes line) (codes "error: ")))) }
+{
+    let mut buffer = [0u8; 4096];
+    for number in 0..usize::MAX {
+        match env.arg(number, &mut buffer) {
+            Ok(length) => {
+                let word = &buffer[..length];
+                if str::from_utf8(word).is_err() {
+                    return Ok(Some(word_line(alloc, number, word)?));
+                }
+            }
+            Err(_) => return Ok(None),
+        }
+    }
+    Ok(None)
+}
+
+// Returns the line for an argument that is not UTF-8. In it bytes that are not printable ASCII are
+// escaped, as in `caf\xe9.plist`.
+fn word_line(alloc: Global, number: usize, word: &[u8]) -> Result<String, AllocError>
+    ensures { IfOk result (λ line.
+        IsTrue (starts_with nat_eq (string_bytes line) (codes "error: "))) }
+{
+    format!(in alloc;
+        "error: argument {number} is not UTF-8: {}\n",
+        word.escape_ascii()
+    )
 }
 
 fn borrowed<'a>(alloc: Global, texts: &'a [String]) -> Result<Vec<&'a str>, AllocError>
