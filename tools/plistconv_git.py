@@ -10,6 +10,7 @@ from contextlib import contextmanager, suppress
 from typing import Callable, Iterable, Iterator
 
 import plistconv_tools as tools
+from plistconv_processes import BEGUN
 
 PLAIN = (b"100644", b"100755")  # modes of regular files, not of links and submodules
 ENCODING = "working-tree-encoding"
@@ -51,6 +52,7 @@ class Git:
     def read_head(self) -> None:
         """Gives a bare repository, which has no index, that of HEAD until the command ends."""
         self.folder = tempfile.TemporaryDirectory()
+        BEGUN.append(self.folder.cleanup)
         self.environment["GIT_INDEX_FILE"] = os.path.join(self.folder.name, "index")
         self.call("read-tree", "HEAD")
 

@@ -2,7 +2,7 @@
 
 The commands read their files and pass the bytes to the program on its standard input, so
 names may be anything that the system allows. No command makes a temporary file, except beside
-a file that it replaces.
+a file that it replaces, and for the index of a bare repository.
 """
 from __future__ import annotations
 

@@ -126,6 +126,21 @@ class Signals(Case):
             (self.folder / "bin").rmdir()
             self.assertEqual(self.contents(), [False, False])
 
+    def test_index_of_a_bare_repository_is_removed(self):
+        self.git("init", "-q")
+        self.put("a.plist", TEXT)
+        self.git("add", "-A")
+        self.git("commit", "-qm", "one")
+        self.git("clone", "-q", "--bare", ".", "bare.git")
+        bare, temporary = str(self.folder / "bare.git"), self.folder / "temporary"
+        temporary.mkdir()
+        env = {
+            **self.program(f"{READY}\nkill -TERM $PPID\nexec sleep 300"),
+            "TMPDIR": str(temporary),
+        }
+        run = self.tool("staged", "--all", status=143, cwd=bare, env=env)
+        self.assertEqual((run.stdout, run.stderr, os.listdir(str(temporary))), (b"", b"", []))
+
     def test_pipe_that_cannot_be_closed_does_not_hide_the_signal(self):
         self.restore()
         lines = (
