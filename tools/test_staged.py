@@ -442,6 +442,19 @@ class Staged(Repository):
             self.assertNotIn(b"k.plist", run.stderr)
             self.assertNotIn(b"differs in the work tree", run.stderr)
 
+    def test_signal_leaves_no_index_of_a_bare_repository(self):
+        self.put("a.plist", TEXT)
+        self.git("add", "-A")
+        self.commit()
+        self.git("clone", "-q", "--bare", ".", "bare.git")
+        kills = b'#!/bin/sh\n[ "$1" != check-attr ] || kill -TERM $PPID\n'
+        self.put(".git/bin/git", kills + b'PATH=${PATH#*:} exec git "$@"\n').chmod(0o755)
+        (self.folder / "tmp").mkdir()
+        env = {**self.environment, "TMPDIR": str(self.folder / "tmp")}
+        for words, status in ((["--all"], 128 + 15), (["--install"], 1)):
+            self.tool("staged", *words, status=status, cwd=str(self.folder / "bare.git"), env=env)
+            self.assertEqual(os.listdir(str(self.folder / "tmp")), [])
+
     def test_file_that_is_only_intended_to_be_added_is_no_fault(self):
         self.put("a.plist", TEXT)
         self.git("add", "-N", "a.plist")
