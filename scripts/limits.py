@@ -5,7 +5,7 @@ refused, so a command could report 60 for whatever is longer than the values of 
 - `lint` refuses a text that exceeds the limit of nodes, of 50 MB, though another refusal is true
   of it too.
 - Each command reads, writes and compares values of 70,000 keys, of 1,100,000 strings, of 3 MiB of
-  data, of a string of 30 MB, and of 450 levels. It refuses such a value with a duplicate key, and a
+  data, of strings of 30 MB, and of 450 levels. It refuses such a value with a duplicate key, and a
   long text with an error at its end. Each text is read as UTF-8 and as UTF-16.
 - `lint` opens a path of 200 bytes, and one of 4,090, and reports one that is longer than
   any path of the system.
@@ -69,35 +69,31 @@ def wide(text):
     return text.decode().encode("utf-16")
 
 
-# Texts at the limits, with the refusal and its offset, if there is one. Each empty array is a node,
-# and so is what contains it.
-EMPTY, DEEP, TWICE = NODES - 1, NODES - 512, NODES - 3
+# How a text is written, and where its offsets are then.
+PLAIN, WIDE = FORMS = [(bytes, int), (wide, lambda octet: 2 + 2 * octet)]
+
+# Texts at the limits, with their form, and the refusal and its offset, if there is one. Each empty
+# array is a node, and so is what contains it.
+DEEP, TWICE = NODES - 512, NODES - 3
 LIMITS = {
-    "one node fewer than the limit": (lambda: b"(" + b"()," * (EMPTY - 1) + b")", None, 0),
-    "as many nodes as the limit": (lambda: b"(" + b"()," * EMPTY + b")", None, 0),
-    "one node more": (lambda: b"(" + b"()," * NODES + b")", NODES_17, 1 + 3 * EMPTY),
-    "one more, too deep": (lambda: b"(" + b"()," * DEEP + b"(" * 512, NODES_17, 512 + 3 * DEEP),
-    "one more, a duplicate": (lambda: b"{a=(" + b"()," * TWICE + b");a;}", NODES_17, 6 + 3 * TWICE),
+    "all nodes": (lambda: b"(" + b"()," * (NODES - 1) + b")", PLAIN, None, 0),
+    "one more": (lambda: b"(" + b"()," * NODES + b")", WIDE, NODES_17, 3 * NODES - 2),
+    "one too deep": (lambda: b"(" + b"()," * DEEP + b"(" * 512, PLAIN, NODES_17, 512 + 3 * DEEP),
+    "a duplicate": (lambda: b"{a=(" + b"()," * TWICE + b");a;}", PLAIN, NODES_17, 6 + 3 * TWICE),
 }
 LARGE = {
-    "as much payload as the limit": (lambda: b"(" + b"a" * (UNITS - 1) + b",b)", None, 0),
-    "one letter more": (lambda: b"(" + b"a" * UNITS + b",b)", PAYLOAD_18, UNITS + 2),
-    "one more, another string": (lambda: b"a" * (UNITS + 1) + b" b", PAYLOAD_18, 0),
+    "all payload": (lambda: b"(" + b"a" * (UNITS - 1) + b",b)", PLAIN, None, 0),
+    "one letter more": (lambda: b"(" + b"a" * UNITS + b",b)", PLAIN, PAYLOAD_18, UNITS + 2),
+    "another string": (lambda: b"a" * (UNITS + 1) + b" b", PLAIN, PAYLOAD_18, 0),
 }
 
 
-# How a text is written, and where its offsets are then.
-FORMS = [(bytes, int), (wide, lambda octet: 2 + 2 * octet)]
-
-
-def keep_limits(runs, limits, forms):
-    """Has `lint` read the texts in these forms, each of which has an offset for one of UTF-8."""
-    for name, (make, refusal, place) in limits.items():
-        text = make()
-        for form, offset in forms:
-            runs.put("text", form(text))
-            said = b"refused %s at octet %d" % (refusal, offset(place)) if refusal else b"OK"
-            runs.expect(name, ["lint", "text"], 2 if refusal else 0, b"text: " + said + b"\n")
+def keep_limits(runs, limits):
+    """Has `lint` read the texts."""
+    for name, (make, (form, offset), refusal, place) in limits.items():
+        runs.put("text", form(make()))
+        said = b"refused %s at octet %d" % (refusal, offset(place)) if refusal else b"OK"
+        runs.expect(name, ["lint", "text"], 2 if refusal else 0, b"text: " + said + b"\n")
 
 
 # Values, in each of their forms.
@@ -175,22 +171,15 @@ def data(size):
     )
 
 
-def letters(size):
+def strings(size):
+    """Returns an array of a string of ASCII and one in UTF-16, of three bytes of text for each."""
+    letters, accents = b"a" * size, "é".encode() * size
+    wide = head(0x60, size) + b"\0\xe9" * size
     return Value(
-        b"a" * size,
-        canonical([head(0x50, size) + b"a" * size]),
-        b"a" * size + b"\n",
-        b'"' + b"a" * size + b'"\n',
-    )
-
-
-def accents(size):
-    accent = "é".encode()
-    return Value(
-        b'"' + accent * size + b'"',
-        canonical([head(0x60, size) + b"\0\xe9" * size]),
-        b'"' + b"\\U00e9" * size + b'"\n',
-        b'"' + accent * size + b'"\n',
+        b"(" + letters + b',"' + accents + b'")',
+        canonical([b"\xa2\x01\x02", head(0x50, size) + letters, wide]),
+        b"(\n" + letters + b',\n"' + b"\\U00e9" * size + b'",\n)\n',
+        b'[\n  "' + letters + b'"\n  "' + accents + b'"\n]\n',
     )
 
 
@@ -325,13 +314,12 @@ def open_paths(runs):
 
 
 def try_all(runs):
-    keep_limits(runs, LIMITS, FORMS)
+    keep_limits(runs, LIMITS)
     for name, make, size in (
         ("70,000 keys", keys, 70_000),
         ("1,100,000 strings", items, 1_100_000),
         ("3 MiB of data", data, 3 << 20),
-        ("a string of 30 MB", letters, 30_000_000),
-        ("a string of 30 MB that is not ASCII", accents, 15_000_000),
+        ("strings of 30 MB", strings, 10_000_000),
         ("450 levels of arrays", arrays, 450),
         ("450 levels of dictionaries", dictionaries, 450),
     ):
@@ -341,7 +329,7 @@ def try_all(runs):
 
 
 def try_large(runs):
-    keep_limits(runs, LARGE, FORMS[:1])
+    keep_limits(runs, LARGE)
     read_many(runs, NODES + 84)
     accept(runs, "a text of 300 MB", data(150_000_000))
 
