@@ -21,7 +21,7 @@ const WIDTHS: [(u64, u8); 8] = [
 ];
 
 // The bytes of a marker and a length, by the length.
-const HEADS: [(usize, u64); 5] = [(0, 1), (14, 1), (15, 3), (255, 3), (256, 4)];
+const HEADS: [(u16, u8); 5] = [(0, 1), (14, 1), (15, 3), (255, 3), (256, 4)];
 
 // Whole numbers, and the bytes of each.
 const WHOLES: [(i128, u64); 7] = [
@@ -38,13 +38,17 @@ const LETTERS: [u8; 600] = [b'a'; 600];
 
 // Returns whether strings and data of this length, and the array and the dictionary of as many
 // references, have a marker and a length of `head` bytes.
-fn has_head(count: usize, head: u64) -> bool {
+fn has_head(count: u16, head: u8) -> bool {
+    let (count, head) = (usize::from(count), u64::from(head));
     let (Some(letters), Some(pairs)) = (LETTERS.get(..count), LETTERS.get(..2 * count)) else {
         return false;
     };
     let (Some(ascii), Some(wide)) = (TextRef::of_ascii(letters), TextRef::of_wide(pairs)) else {
         return false;
     };
+    if wide.len() > 600 {
+        return false;
+    }
     let length = count as u64;
     scalar_length(&ScalarRef::Text(ascii)) == head + length
         && scalar_length(&ScalarRef::Text(wide)) == head + 2 * length
