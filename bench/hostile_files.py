@@ -216,7 +216,7 @@ def alike_keys(size, forms, overlapping):
     """Returns an array of dictionaries with the same 16 long keys, each in an order of its own. The
     keys are stored in these forms in turn, and leave what they begin with each a little later than
     the one before. A dictionary of so many keys that overlap comes first, if there are any."""
-    count, length, width, chance = 16, 2000, 3, random.Random(16)
+    count, length, width, chance = 16, 1000, 3, random.Random(16)
     keys = []
     for place in range(count):
         form, units = forms[place % len(forms)], b"a" * (length - 20 * (count - place)) + b"b"

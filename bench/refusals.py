@@ -182,8 +182,16 @@ MEMORY = {
     # (12 bytes are kept for each object, here of one byte, and the file itself is in memory)
     "offsets of one byte": Row(lambda: narrow_offsets(16_000_000), "", 14, "refused 40"),
     # Files that encode far larger values: one and a half times what these took.
-    "shared dictionaries": Row(lambda: shared_dictionaries(20), "", {"binary1": 35, "same": 100}),
-    "shared arrays": Row(lambda: arrays_named_twice(24), "", {"binary1": 400, "same": 760}),
+    "shared dictionaries": Row(
+        lambda: shared_dictionaries(20), "", {"binary1": 35, "same": 100, CHECK: 55}
+    ),
+    "shared arrays": Row(
+        lambda: arrays_named_twice(24), "", {"binary1": 400, "same": 760, CHECK: 580}
+    ),
+    "one boolean, 16,777,215 times": Row(
+        lambda: fan(16_777_215, b"\x09"), "", {"binary1": 155, "same": 230}, "refused 40"
+    ),
+    "1 MiB of data, 1,024 times": Row(lambda: fan(1024, head(0x40, MIB) + bytes(MIB)), "", {}),
 }
 
 
@@ -241,7 +249,8 @@ def memory(measure, program, source):
     for name, row in MEMORY.items():
         size, cells, longest = made(name, 0, source), [], 0
         for command in MEASURED if row.answer == "" else MEASURED[:-1]:
-            words = words_of(command, source, source + " canonical" * (command == "binary1"))
+            target = source + " canonical" if command == "binary1" else os.devnull
+            words = words_of(command, source, target)
             answer = row.openstep or row.answer if command == "openstep" else row.answer
             is_long = command == "print" and not answer
             run = measure.run(
