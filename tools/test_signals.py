@@ -92,10 +92,10 @@ class Signals(Case):
         self.restore()
         lines = (
             "import signal\nold = os.unlink\n"
-            "def unlink(*names):\n    os.unlink = old\n    os.kill(os.getpid(), signal.SIGINT)\n    old(*names)\n"
+            "def unlink(*names):\n    os.unlink = old\n    os.kill(os.getpid(), signal.SIGTERM)\n    old(*names)\n"
             "os.unlink = unlink\nos.fsync = lambda file: os.kill(os.getpid(), signal.SIGTERM)"
         )
-        self.assertEqual(self.patched(lines, "a", "b", status=130), b"")
+        self.assertEqual(self.patched(lines, "a", "b", status=143), b"")
         self.assertEqual(self.contents(), [False, False])
 
     def test_signal_while_the_program_runs_ends_both(self):
