@@ -43,6 +43,25 @@ def rows(*makers, **more):
     return {make.__name__.replace("_", " "): Row(make, **more) for make in makers}
 
 
+def late(names, count=20, key=files.wide_key, **more):
+    return Row(lambda size: files.late_dictionary(count, size, key, names), **more)
+
+
+def alike(forms, overlapping):
+    return Row(lambda size: files.alike_keys(size, forms, overlapping), repeats=True)
+
+
+def tied(*blocks):
+    """Returns a row of keys in few groups, whose next units are equal each time that they are
+    compared: eight of 8 bits, or four of 16 bits."""
+    return Row(lambda size: files.one_dictionary(size, lambda place: files.tied(place, blocks)))
+
+
+def repeating(make):
+    return Row(make, repeats=True)
+
+
+ASCII, WIDE, NARROW_UNITS, WIDE_UNITS = files.ASCII, files.WIDE, [0x61] * 8, [0x4E00] * 4
 ROWS = {
     **rows(
         files.shared_keys,
@@ -53,37 +72,42 @@ ROWS = {
         answer="refused 18",
     ),
     **rows(files.one_dictionary_often, answer="refused 14"),
-    **rows(files.boolean_keys, answer="refused 13"),
-    **rows(files.keys_nowhere, answer="refused 5"),
+    "boolean keys": late([2] * 9, answer="refused 13"),
+    "keys nowhere": late([10**6] * 9, answer="refused 5"),
+    "late wide keys": late(range(3, 12), repeats=True),
+    "late ASCII keys": late(range(3, 12), key=files.ascii_key, repeats=True),
+    "late 256 keys": late(range(3, 12), count=256, repeats=True),
+    "one place": repeating(
+        lambda size: files.at_one_place(size // 8, files.wide_string(size // 250, 0))
+    ),
+    "one short place": repeating(
+        lambda size: files.at_one_place(size // 7, files.wide_string(255, 0))
+    ),
+    # (longer keys would have more bytes in all dictionaries than a value may have)
+    "reordered 16": repeating(lambda size: files.reordered(16, size * 2 // 17, size)),
+    "reordered 256": repeating(lambda size: files.reordered(256, size // 2, size)),
     **rows(
-        files.one_place,
-        files.one_short_place,
         files.one_key,
-        files.reordered_16,
-        files.reordered_256,
         files.three_in_turn,
         files.overlapping_unreached,
         files.agreeing_keys,
-        files.mixed_overlapping,
-        files.ascii_overlapping,
-        files.wide_overlapping,
-        files.mixed_apart,
-        files.late_wide_keys,
-        files.late_ascii_keys,
-        files.late_256_keys,
         repeats=True,
     ),
+    "mixed overlapping": alike((ASCII, WIDE), 64),
+    "ASCII overlapping": alike((ASCII,), 64),
+    "wide overlapping": alike((WIDE,), 64),
+    "mixed apart": alike((ASCII, WIDE), 0),
+    "tied narrow keys": tied(*[NARROW_UNITS] * 5),
+    "tied wide keys": tied(*[WIDE_UNITS] * 5),
+    "changing keys": tied(*[NARROW_UNITS, WIDE_UNITS] * 3),
     **rows(
         files.lists_in_turn,
-        files.tied_narrow_keys,
-        files.tied_wide_keys,
-        files.changing_keys,
         files.one_narrow_key,
         files.surrogate_keys,
         files.quotes,
         files.unseen_units,
+        *collisions.FILES,
     ),
-    **rows(*collisions.FILES),
     **rows(*collisions.TEXTS, refusers=("check",)),
 }
 REPEATERS = ("print", "openstep")

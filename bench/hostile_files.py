@@ -103,16 +103,6 @@ def one_string_often(size):
     return joined([array([1] * (size // 2), 1), ascii_string(size // 2)], 1)
 
 
-def one_place(size):
-    """Returns an array of strings that all begin at one offset, so that they are the same bytes."""
-    return at_one_place(size // 8, wide_string(size // 250, 0))
-
-
-def one_short_place(size):
-    """Returns `one_place` with a shorter string."""
-    return at_one_place(size // 7, wide_string(255, 0))
-
-
 def at_one_place(count, text):
     first = array(range(1, count + 1), 3)
     return file(first + text, [8] + [8 + len(first)] * count, 3)
@@ -148,15 +138,6 @@ def reordered(count, names, size, unreached=()):
     size = (size - names) * count // (count + 1)
     lists = [chance.sample(range(1, count + 1), count) for _ in range(size // (6 * count) + 1)]
     return dictionaries_of(lists, keys, size, unreached=unreached)
-
-
-def reordered_16(size):
-    # (longer keys would have more bytes in all dictionaries than a value may have)
-    return reordered(16, size * 2 // 17, size)
-
-
-def reordered_256(size):
-    return reordered(256, size // 2, size)
 
 
 def overlapping_unreached(size):
@@ -230,22 +211,6 @@ def alike_keys(size, forms, overlapping):
     return joined([array(range(1, at - 1), width), *tables, b"Qx", *keys, *over], width)
 
 
-def mixed_overlapping(size):
-    return alike_keys(size, (ASCII, WIDE), 64)
-
-
-def ascii_overlapping(size):
-    return alike_keys(size, (ASCII,), 64)
-
-
-def wide_overlapping(size):
-    return alike_keys(size, (WIDE,), 64)
-
-
-def mixed_apart(size):
-    return alike_keys(size, (ASCII, WIDE), 0)
-
-
 def agreeing_keys(size):
     """Returns an array of dictionaries of the same 256 long UTF-16 keys, each in another order. The keys overlap: their
     heads stand every 64 bytes in what all of them repeat, so that two agree up to the last head."""
@@ -295,31 +260,6 @@ def ascii_key(length, place):
     return ascii_string(length // 2, b"%03d" % place)
 
 
-def boolean_keys(size):
-    """Returns a `late_dictionary` with nine keys that are a boolean."""
-    return late_dictionary(20, size, wide_key, [2] * 9)
-
-
-def keys_nowhere(size):
-    """Returns a `late_dictionary` with nine keys that are references to no object."""
-    return late_dictionary(20, size, wide_key, [10**6] * 9)
-
-
-def late_wide_keys(size):
-    """Returns a `late_dictionary` with nine of the keys."""
-    return late_dictionary(20, size, wide_key, range(3, 12))
-
-
-def late_ascii_keys(size):
-    """Returns a `late_dictionary` of ASCII keys, with nine of them."""
-    return late_dictionary(20, size, ascii_key, range(3, 12))
-
-
-def late_256_keys(size):
-    """Returns a `late_dictionary` of 256 keys, with nine of them."""
-    return late_dictionary(256, size, wide_key, range(3, 12))
-
-
 def one_dictionary(size, units_of):
     """Returns a dictionary whose keys are UTF-16 strings of these units, in no order, all
     of the same length."""
@@ -339,23 +279,6 @@ def tied(place, blocks):
         for unit in (block[0] + (place >> at & 1), *block[1:])
     ]
     return start + [0x4E00 + place // 256, 0x4E00 + place % 256]
-
-
-def tied_narrow_keys(size):
-    """Returns keys in few groups, whose next eight units of 8 bits are equal each time that
-    they are compared."""
-    return one_dictionary(size, lambda place: tied(place, [[0x61] * 8] * 5))
-
-
-def tied_wide_keys(size):
-    """Returns keys in few groups, whose next four units of 16 bits are equal each time that
-    they are compared."""
-    return one_dictionary(size, lambda place: tied(place, [[0x4E00] * 4] * 5))
-
-
-def changing_keys(size):
-    """Returns keys in few groups, whose next units need 8 and 16 bits in turn."""
-    return one_dictionary(size, lambda place: tied(place, [[0x61] * 8, [0x4E00] * 4] * 3))
 
 
 def one_narrow_key(size):
