@@ -19,12 +19,12 @@ use Rattle.plist_forms.specs.declared.forms.Form.TheVariants.{Binary1, OpenStep}
 use Rattle.plist_value.specs.Writable.{is_writable}
 use Rattle.ostep_text.specs.Written.{written}
 use Rattle.plist_convert.specs.Files.{CountsFailure, FileName, Files, IsStored, SameFiles, Stores}
-use Rattle.plist_convert.specs.FileDisk.{IsFullAt}
+use Rattle.plist_convert.specs.FileDisk.{IsFullAt, unless_lost}
 use Rattle.plist_convert.specs.Opens.{Creates, HasWritten, IsFilled, IsWithin, MayEmpty, Puts, Settles, held_by, is_begun, taken_by, written_of}
 use Rattle.plist_convert.specs.declared.opens.Created.{Created}
 use Rattle.plist_convert.proofs.FilesBefore.{same_trans}
-use Rattle.plist_convert.proofs.Handed.{handed_over}
-use Rattle.plist_convert.proofs.Limits.{fits, is_full}
+use Rattle.plist_convert.proofs.Handed.{handed_over, lost_over}
+use Rattle.plist_convert.proofs.Limits.{fits, is_full, unknown_before}
 use Rattle.plist_convert.proofs.Stored.{none_sent, sent_count, stored_taken, unstored, wanting}
 
 -- no output is empty
@@ -212,6 +212,19 @@ settled writes form octets files middle rest before after path None result there
 settled writes form octets files middle rest before after path (Some file) result there creates puts counts =
     let put : Puts path (writes file.writer) middle rest = subst (λ (name : FileName). Puts name (writes file.writer) middle rest) there puts in
     kept form octets files middle rest before after path (writes file.writer) result creates put counts
+
+-- the file is closed
+pub closed : {W : Type 0} (writes : W → Option (List ℕ)) (form : Form) (octets : List ℕ) (files middle rest : Option Files)
+    (before after : ℕ) (path : FileName) (made : Option (Created W)) (result : Result ℕ Fault) (is_kept : Bool) → IfSome made (λ file. file.path.now ≡ path)
+    → Creates form octets path files middle (option_map (written_of writes) made) result → (is_kept ≡ true → Settles writes made middle rest)
+    → (is_kept ≡ false → middle ≡ None) → CountsFailure before after (unless_lost is_kept result)
+    → Stores form octets files rest before after path (unless_lost is_kept result)
+closed writes form octets files middle rest before after path made result true there creates settles unknown counts =
+    settled writes form octets files middle rest before after path made result there creates (settles refl) counts
+closed writes form octets None middle rest before after path made result false there creates settles unknown counts =
+    lost_over form octets rest before after 0 creates.failures path result creates.writes counts
+closed writes form octets (Some old) middle rest before after path made result false there creates settles unknown counts =
+    absurd (let no : Some old ≡ None = unknown_before path (Some old) middle creates.emptied (unknown refl) in cc)
 
 -- out of memory to close the file
 unclosed : (form : Form) (octets : List ℕ) (files rest : Option Files) (before after failures : ℕ) (path : FileName)

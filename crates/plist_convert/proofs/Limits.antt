@@ -17,7 +17,7 @@ use Rattle.plist_write.specs.Sending.{IsWritten}
 use Rattle.plist_forms.specs.Output.{IsOutput, IsOutputFault}
 use Rattle.plist_forms.specs.Sent.{answer_of}
 use Rattle.plist_forms.specs.Transfer.{Writes}
-use Rattle.plist_convert.specs.FileDisk.{IsFull, IsFullAt, told}
+use Rattle.plist_convert.specs.FileDisk.{IsFull, IsFullAt, told, unless_lost}
 use Rattle.plist_convert.specs.Files.{CountsFailure, FileName, Files, IsStored, SameFiles, Stores}
 use Rattle.plist_convert.specs.Opens.{IsFilled, IsUnwritten, IsWithin, MayEmpty, StaysWithin, held_by, is_begun}
 
@@ -200,6 +200,20 @@ told_fits limit files sent false fits = fits
 told_fits limit files (Ok n) true fits = fits
 told_fits limit files (Err (WriteFailed n)) true fits = tt
 told_fits limit files (Err _) true fits = tt
+
+-- a file that may be lost when it is closed has no maximum size that is known
+pub lost_fits : (limit : ℕ) (files : Option Files) (sent : Result ℕ Fault) (is_kept : Bool)
+    → IfOk sent (λ count. IfSome files (λ _. count ≤ limit)) → IfOk (unless_lost is_kept sent) (λ count. IfSome files (λ _. count ≤ limit))
+lost_fits limit files sent true fits = fits
+lost_fits limit files (Ok n) false fits = tt
+lost_fits limit files (Err fault) false fits = tt
+
+pub lost_full : (form : Form) (octets : List ℕ) (limit : ℕ) (files : Option Files) (sent : Result ℕ Fault) (is_kept : Bool)
+    → (is_kept ≡ false → files ≡ None) → IfErr sent (λ fault. IfSome files (λ _. IsFullAt form octets limit fault))
+    → IfErr (unless_lost is_kept sent) (λ fault. IfSome files (λ _. IsFullAt form octets limit fault))
+lost_full form octets limit files sent true unknown full = full
+lost_full form octets limit files (Ok n) false unknown full = rw (unknown refl) tt
+lost_full form octets limit files (Err fault) false unknown full = full
 
 any_at : (form : Form) (octets : List ℕ) (limit : ℕ) (files : Option Files) (fault : Fault) → IsFullAt form octets limit fault
     → IfSome files (λ _. IsFullAt form octets limit fault)

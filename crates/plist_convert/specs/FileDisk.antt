@@ -1,5 +1,6 @@
 -- What contracts know of a `FileDisk`.
-use Rattle.std.specs.Prelude.{◌≡◌, ℕ, ◌<◌, Bool, true, List, length, Option, Result, Err}
+use Rattle.std.specs.Prelude.{◌≡◌, ℕ, ◌<◌, Bool, true, false, List, length, Ok, Option}
+use Rattle.std.specs.Prelude.{Result, Err}
 use Rattle.plist_forms.specs.declared.faults.Fault.{Fault}
 use Rattle.plist_forms.specs.declared.faults.Fault.TheVariants.{OutOfMemory, WriteFailed}
 use Rattle.plist_forms.specs.declared.forms.Form.{Form}
@@ -31,6 +32,11 @@ pub record IsFull (form : Form) (octets : List ℕ) (limit sent : ℕ) : Type 0 
 abbrev pub IsFullAt : Form → List ℕ → ℕ → Fault → Type 0
 IsFullAt form octets limit (WriteFailed sent) = IsFull form octets limit sent
 IsFullAt form octets limit _ = Unit {0}
+
+-- what is lost when its file is closed was not written
+abbrev pub unless_lost : (is_kept : Bool) → Result ℕ Fault → Result ℕ Fault
+unless_lost false (Ok sent) = Err (WriteFailed sent)
+unless_lost _ result = result
 
 -- the result of a store: a device that ran out of memory is 60 in place of 51
 abbrev pub told : (needs_memory : Bool) → Result ℕ Fault → Result ℕ Fault

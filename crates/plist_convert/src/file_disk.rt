@@ -1,8 +1,8 @@
 //! A disk with the files of an opener.
 ghost use Rattle.std.specs.Prelude.{◌≡◌, ◌≤◌, false, IfErr, IfOk, IfSome, None, OnErr, OnOk};
-ghost use Rattle.std.specs.Prelude.{IsErrOf, option_map};
+ghost use Rattle.std.specs.Prelude.{IsErrOf, IsTrue, option_map};
 ghost use Rattle.plist_forms.specs.Load.{octets_or};
-ghost use Rattle.plist_convert.specs.FileDisk.{IsFullAt, told};
+ghost use Rattle.plist_convert.specs.FileDisk.{IsFullAt, told, unless_lost as kept_or_lost};
 ghost use Rattle.plist_convert.specs.Files.{FileHolds, LoadsFile, SameFiles, Stores};
 ghost use Rattle.plist_convert.specs.Opens.{CountsUnread, Creates, HasFailing, IsUnfound};
 ghost use Rattle.plist_convert.specs.Opens.{IsUnopenedAs, Settles, written_of};
@@ -112,7 +112,8 @@ impl<O: Steady, H: BuildHasher + Copy> Disk for FileDisk<O, H> {
             octets,
             form,
         );
-        settle(&mut self.opener, alloc, created)?;
+        let is_kept = settle(&mut self.opener, alloc, created)?;
+        let sent = unless_lost(sent, is_kept);
         self.failures = failures_after(self.failures, &sent, needs_memory);
         tell(sent, needs_memory)
     }
@@ -208,20 +209,32 @@ fn write_target<'p, O: Opens, H: BuildHasher + Copy, K: KnownTarget>(
     (created, sent, needs_memory)
 }
 
-// Closes the file, if it was created. If out of memory for that, no file changes.
+// Closes the file, if it was created, and returns whether it contains what was written. If out of
+// memory, no file changes.
 fn settle<O: Opens>(
     opener: &mut O,
     alloc: Global,
     created: Option<Created<'_, O::Writer>>,
-) -> Result<(), AllocError>
-    ensures settles { IfOk result (λ _.
+) -> Result<bool, AllocError>
+    ensures settles { IfOk result (λ is_kept. IsTrue is_kept →
         Settles O.Writer.contents created.entry (O.files opener.old) (O.files opener.new)) }
+    ensures lost { IfOk result (λ is_kept. is_kept ≡ false → O.files opener.old ≡ None) }
     ensures unchanged { OnErr result (SameFiles (O.files opener.old) (O.files opener.new)) }
     ensures limit { O.limit opener.new ≡ O.limit opener.old }
 {
     match created {
         Some(created) => opener.keep(alloc, created),
-        None => Ok(()),
+        None => Ok(true),
+    }
+}
+
+// Returns the result of a store whose file was closed: what is lost then was not written.
+fn unless_lost(sent: Result<u64, Fault>, is_kept: bool) -> Result<u64, Fault>
+    ensures { result ≡ kept_or_lost is_kept sent }
+{
+    match sent {
+        Ok(sent) if !is_kept => Err(Fault::WriteFailed { sent }),
+        _ => sent,
     }
 }
 

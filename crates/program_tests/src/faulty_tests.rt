@@ -166,6 +166,36 @@ fn a_write_that_fails_once_is_51(rt: HostRuntime) -> Result<(), Fail> {
     remove_files(&rt)
 }
 
+// Returns a host that fails so to synchronise what was written.
+fn unsynced(rt: &HostRuntime, kind: ErrorKind) -> StrictHost<'_> {
+    StrictHost {
+        written: Transfers {
+            unsynced: Some(kind),
+            ..Transfers::GOOD
+        },
+        ..StrictHost::over(rt)
+    }
+}
+
+// What a host could not store is told before the run ends. A pipe has nothing to synchronise.
+#[test]
+fn a_file_that_is_not_stored_is_51(rt: HostRuntime) -> Result<(), Fail> {
+    for (words, file) in CONVERSIONS {
+        for kind in KINDS {
+            let lost = is_cut(&rt, &unsynced(&rt, kind), words, file, file.len())?;
+            assert!(rt; lost, "{words}");
+        }
+        for kind in [ErrorKind::InvalidInput, ErrorKind::Unsupported] {
+            let row = format!(in rt.alloc(); "{words}|0 ")?;
+            assert!(rt;
+                is_answered(&rt, &unsynced(&rt, kind), row.as_str())?,
+                "{words}"
+            );
+        }
+    }
+    remove_files(&rt)
+}
+
 // Converts standard input to standard output, of which transfers fail. Returns the exit status and
 // the output.
 fn filtered(rt: &HostRuntime, read: Transfers, written: Transfers, to_end: bool) -> (u8, Vec<u8>) {
@@ -202,8 +232,8 @@ fn the_key_is_read_whole(rt: HostRuntime) -> Result<(), Fail> {
     let host = StrictHost {
         read: Transfers {
             most: 1,
-            failing: None,
             given: Some(&given),
+            ..Transfers::GOOD
         },
         ..StrictHost::over(&rt)
     };

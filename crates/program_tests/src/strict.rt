@@ -19,6 +19,8 @@ pub(crate) struct Transfers<'a> {
     pub(crate) failing: Option<(usize, ErrorKind)>,
     // Counts the bytes that were read.
     pub(crate) given: Option<&'a Cell<usize>>,
+    // How it fails that what was written is synchronised.
+    pub(crate) unsynced: Option<ErrorKind>,
 }
 
 impl Transfers<'_> {
@@ -27,20 +29,20 @@ impl Transfers<'_> {
         most: usize::MAX,
         failing: None,
         given: None,
+        unsynced: None,
     };
 
     // Returns transfers of which one fails.
     pub(crate) fn failing(number: usize, kind: ErrorKind) -> Transfers<'static> {
         Transfers {
-            most: usize::MAX,
             failing: Some((number, kind)),
-            given: None,
+            ..Transfers::GOOD
         }
     }
 }
 
 // A device whose reads fail if they ask for more than [`TAKE`] bytes, and that is never to be
-// flushed or synchronised: it fails then, and has one more byte.
+// flushed: it fails then, and has one more byte.
 #[derive(Drop)]
 pub(crate) struct Strict<'a, D> {
     pub(crate) device: D,
@@ -128,7 +130,10 @@ impl<D: OpenFile> OpenFile for Strict<'_, D> {
     }
 
     fn sync_data(&self) -> io::Result<()> {
-        Err(refused())
+        match self.transfers.unsynced {
+            Some(kind) => Err(io::Error::from(kind)),
+            None => Ok(()),
+        }
     }
 }
 
