@@ -68,8 +68,8 @@ HoldsFront before after path octets sent =
     Turns before after (λ old new. ((sent ≡ 0) × (new path ≡ old path))
     ⊎ (new path ≡ Some (take sent octets)))
 
--- so many of the bytes were sent: not all, or perhaps all if the disk does not know its files, whose
--- device may fail when a file is closed
+-- Not all of the bytes were sent. If the disk does not know its files, it may be all: then the
+-- device failed when the file was closed.
 abbrev pub IsCutAt : Option Files → List ℕ → ℕ → Type 0
 IsCutAt None octets sent = sent ≤ length octets
 IsCutAt (Some at) octets sent = sent < length octets

@@ -119,7 +119,7 @@ const CONVERSIONS: [(&str, &[u8]); 2] = [
     ("convert openstep row2.bin old", WRITTEN_TEXT),
 ];
 
-// Returns whether the run over the host is 51 after so many bytes, and leaves them in the file.
+// Returns whether the run over the host is 51 after `sent` bytes, and leaves these in the file.
 fn is_cut(
     rt: &HostRuntime,
     host: &StrictHost,
