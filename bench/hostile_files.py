@@ -104,6 +104,7 @@ def one_string_often(size):
 
 
 def at_one_place(count, text):
+    """Returns an array of strings that all begin at one offset, so that they are the same bytes."""
     first = array(range(1, count + 1), 3)
     return file(first + text, [8] + [8 + len(first)] * count, 3)
 

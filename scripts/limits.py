@@ -2,11 +2,11 @@
 """limits.py PROGRAM [--large]: checks what is too long for tests. No contract says when memory is
 refused, so a command could report 60 for whatever is longer than the values of the tests.
 
-- `lint` refuses a text that exceeds the limit of nodes, of 50 MB, though another refusal is true
-  of it too.
+- `lint` refuses a text that exceeds the limit of nodes, of 50 MB or in UTF-16 of 100, though
+  another refusal is true of it too.
 - Each command reads, writes and compares values of 70,000 keys, of 1,100,000 strings, of 3 MiB of
   data, of strings of 30 MB, and of 450 levels. It refuses such a value with a duplicate key, and a
-  long text with an error at its end. Each text is read as UTF-8 and as UTF-16.
+  long text with an error at its end. Each of these texts is read as UTF-8 and as UTF-16.
 - `lint` opens a path of 200 bytes, and one of 4,090, and reports one that is longer than
   any path of the system.
 
