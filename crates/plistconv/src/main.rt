@@ -2,10 +2,8 @@
 //! standard output.
 #![tactic(auto)]
 
-ghost use Rattle.std.specs.Prelude.{◌≡◌, ◌≢◌, ◌⊎◌, ℕ, IfErr, IfOk, IfSome, IsTrue, List};
-ghost use Rattle.std.specs.Prelude.{codes, map, nat_eq, string_bytes};
+ghost use Rattle.std.specs.Prelude.{◌≡◌, ◌≢◌, ◌⊎◌, ℕ, IfErr, IfOk, List, map, string_bytes};
 ghost use Rattle.std.specs.IoError.{error_kind};
-ghost use Rattle.std.specs.List.{starts_with};
 ghost use Rattle.plist_convert.specs.Ending.{Prints, no_memory};
 ghost use Rattle.plist_convert.specs.Explaining.{IsExplanation};
 ghost use Rattle.plist_convert.specs.Program.{IsHostRun};
@@ -16,6 +14,9 @@ use std::io::{ErrorKind, Read, Write};
 use std::process::ExitCode;
 use std::rt::Env;
 use std::{env, io};
+
+// The line for an argument that is not UTF-8, if there is no memory to name it.
+const UNNAMED: &str = "error: an argument is not UTF-8\n";
 
 fn main(rt: HostRuntime) -> ExitCode {
     let arguments = arguments(&rt);
@@ -107,18 +108,26 @@ fn refuse_words<E: Env, O: Write>(alloc: Global, env: &E, output: &mut O) -> u8
 {
     let found = bad_word(alloc, env);
     let line = match &found {
-        Ok(Some(line)) => line.as_str(),
-        _ => "error: an argument is not UTF-8\n",
+        Ok(Some(line)) => message(line),
+        _ => UNNAMED,
     };
     refuse(output, line, Status::BadWords.code())
 }
 
+// Returns the line if it begins like a usage error, as it does.
+fn message(line: &str) -> &str
+    ensures { IsExplanation 3 result.now }
+{
+    if line.as_bytes().starts_with(b"error: ") {
+        line
+    } else {
+        UNNAMED
+    }
+}
+
 // Returns the line for the first argument that is not UTF-8, if it has at most 4,096 bytes. The
 // program's name is argument 0.
-fn bad_word<E: Env>(alloc: Global, env: &E) -> Result<Option<String>, AllocError>
-    ensures { IfOk result (λ found. IfSome found (λ line.
-        IsTrue (starts_with nat_eq (string_bytes line) (codes "error: ")))) }
-{
+fn bad_word<E: Env>(alloc: Global, env: &E) -> Result<Option<String>, AllocError> {
     let mut buffer = [0u8; 4096];
     for number in 0..usize::MAX {
         match env.arg(number, &mut buffer) {
@@ -136,10 +145,7 @@ fn bad_word<E: Env>(alloc: Global, env: &E) -> Result<Option<String>, AllocError
 
 // Returns the line for an argument that is not UTF-8. In it bytes that are not printable ASCII are
 // escaped, as in `caf\xe9.plist`.
-fn word_line(alloc: Global, number: usize, word: &[u8]) -> Result<String, AllocError>
-    ensures { IfOk result (λ line.
-        IsTrue (starts_with nat_eq (string_bytes line) (codes "error: "))) }
-{
+fn word_line(alloc: Global, number: usize, word: &[u8]) -> Result<String, AllocError> {
     format!(in alloc;
         "error: argument {number} is not UTF-8: {}\n",
         word.escape_ascii()
