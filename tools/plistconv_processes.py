@@ -2,12 +2,13 @@
 from __future__ import annotations
 
 import os
+import select
 import signal
 import subprocess
 import threading
 from collections import deque
 from contextlib import contextmanager, suppress
-from typing import IO, Callable, Iterable, Iterator, NoReturn, TypeVar
+from typing import Callable, Iterable, Iterator, NoReturn, TypeVar
 
 Item = TypeVar("Item")
 Result = TypeVar("Result")
@@ -37,8 +38,7 @@ def end(number: int, _frame: object) -> NoReturn:
 
 @contextmanager
 def undoing(undo: Callable[[], None]) -> Iterator[None]:
-    """Calls `undo` if the block fails, or if a signal ends the command within it: then there may
-    be nothing to undo yet, or no more."""
+    """Calls `undo` if the block fails or a signal ends it, even if there is nothing to undo."""
     BEGUN.append(undo)
     try:
         yield
@@ -65,7 +65,7 @@ def run_over(command: list[str], octets: tuple[bytes, ...], limit: int) -> tuple
             os.close(reading)
             feeders.append(threading.Thread(target=feed, args=(writing, part)))
             feeders[-1].start()
-        output = read_up_to(process.stdout, limit)
+        output = read_up_to(process.stdout.fileno(), limit)
         if len(output) > limit:
             process.kill()
         for feeder in feeders:
@@ -73,11 +73,14 @@ def run_over(command: list[str], octets: tuple[bytes, ...], limit: int) -> tuple
     return process.returncode, output
 
 
-def read_up_to(pipe: IO[bytes], limit: int) -> bytes:
+def read_up_to(pipe: int, limit: int) -> bytes:
     """Returns what is written to a pipe, or a part of more than `limit` bytes."""
-    output = bytearray()
+    output, poll = bytearray(), select.poll()
+    poll.register(pipe, select.POLLIN)
     while len(output) <= limit:
-        part = pipe.read(1 << 20)
+        while not poll.poll(1000):
+            pass  # A signal that comes just before it waits does not end the wait.
+        part = os.read(pipe, 1 << 20)
         if not part:
             break
         output += part

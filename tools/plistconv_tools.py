@@ -30,7 +30,7 @@ PRINTED = (
 )
 # What the program prints if it has an answer, by its command (none converts) and its status.
 ANSWERS = {
-    ("", 0): rb"(?s)bplist00.*",
+    ("", 0): rb"(?s)bplist00.{32,}",
     ("same", 0): rb"equal\n",
     ("same", 1): rb"different\n",
     ("lint", 0): rb"[^\n]*: OK\n",
@@ -241,8 +241,6 @@ def answer(asked: str, status: int, output: bytes, has_xml: bool) -> tuple[int, 
 
 def is_whole(octets: bytes) -> bool:
     """Returns whether a binary file ends where its trailer says."""
-    if len(octets) < 40:
-        return False
     width, count, table = struct.unpack(">6xBxQ8xQ", octets[-32:])
     return table + width * count + 32 == len(octets)
 
@@ -270,8 +268,7 @@ def printed(octets: bytes) -> bytes:
 
 
 def print_begins(octets: bytes) -> bytes:
-    """Returns the printed text of a property list, or the first part of a long one. Raises
-    `Refused`."""
+    """Returns the printed text of a property list, or its beginning. Raises `Refused`."""
     return ask(["print", "/dev/stdin"], octets, limit=1 << 10)[1]
 
 

@@ -34,7 +34,9 @@ for name in ("open", "write", "fchown", "fchmod", "setxattr", "removexattr", "fs
     if hasattr(os, name):
         setattr(os, name, stepping(getattr(os, name)))
 """
-READY = "read line"  # The program has begun once it gets its input.
+# The program has begun once it gets its input. It sends the signal until it is killed itself, since
+# one that comes just before the command waits is handled after the wait.
+KILLS = "read line\nfor at in $(seq 100); do kill -%s $PPID; sleep 0.1; done"
 COUNT = "import atexit\natexit.register(lambda: sys.stderr.write(str(count)))\n"
 
 
@@ -114,7 +116,7 @@ class Signals(Case):
             os.mkfifo(str(fifo))
             reading = os.open(str(fifo), os.O_RDONLY | os.O_NONBLOCK)
             name = SIGNALS[number]
-            env = self.program(f"exec 9> fifo\n{READY}\nkill -{name[3:]} $PPID\nexec sleep 300")
+            env = self.program("exec 9> fifo\n" + KILLS % name[3:])
             run = self.tool(tool, *words, status=128 + getattr(signal, name), env=env)
             self.assertEqual((run.stdout, run.stderr), (b"", b""))
             # The pipe is closed once no program runs that would write to it.
@@ -135,7 +137,7 @@ class Signals(Case):
         bare, temporary = str(self.folder / "bare.git"), self.folder / "temporary"
         temporary.mkdir()
         env = {
-            **self.program(f"{READY}\nkill -TERM $PPID\nexec sleep 300"),
+            **self.program(KILLS % "TERM"),
             "TMPDIR": str(temporary),
         }
         run = self.tool("staged", "--all", status=143, cwd=bare, env=env)
@@ -149,7 +151,7 @@ class Signals(Case):
             "    if kind is not None: raise BrokenPipeError(32, 'Broken pipe')\n"
             "subprocess.Popen.__exit__ = leave"
         )
-        env = self.program(f"{READY}\nkill -TERM $PPID\nexec sleep 300")
+        env = self.program(KILLS % "TERM")
         self.assertEqual(self.patched(lines, "a", "b", status=143, env=env), b"")
         self.assertEqual((self.folder / "a").read_bytes(), self.old)
 
