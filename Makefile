@@ -61,7 +61,7 @@ words: plistconv
 	PLISTCONV=./plistconv scripts/words.sh
 
 bench: plistconv
-	python3 bench/bench.py ./plistconv --plot docs/benchmarks.svg
+	python3 bench/bench.py ./plistconv --instructions --plot docs/benchmarks.svg
 	python3 bench/commands.py ./plistconv
 
 hostile: plistconv
