@@ -14,9 +14,6 @@ A span in backticks is checked if its form tells what it is:
   (`put_scalar`): some crate has it.
 Words in capitals are placeholders (`crates/NAME/src`); spans with them are skipped.
 Besides:
-- the README's graph (lines `plist_convert → plist_forms → plist_canon`) agrees with
-  crates.txt: along its arrows each crate reaches exactly what it reaches by crates.txt. The
-  crates of tests are left out;
 - docs/ARCHITECTURE.md has a row for each crate, and its layers have each crate once, none
   above one that it uses;
 - docs/FORMATS.md has each refusal with its number and its name, and the limits of the code, and
@@ -36,7 +33,7 @@ from pathlib import Path
 TOP = Path(__file__).resolve().parent.parent
 CRATES = TOP / "crates"
 PAGES = sorted([*TOP.glob("*.md"), *TOP.glob("docs/*.md"), *TOP.glob("bindings/**/*.md")])
-TESTS = {"plist_tests", "program_tests", "test_files", "rows"}  # crates that the graph leaves out
+TESTS = {"plist_tests", "program_tests", "test_files", "rows"}  # crates that the layers leave out
 SPAN = re.compile(r"`([^`\n]+)`")
 LINK = re.compile(r"\]\(([^)#:]*)(?:#([\w-]+))?\)")
 PATH = re.compile(r"[\w.-]+(/[\w.-]*)+")
@@ -162,42 +159,6 @@ def blocks(text):
     ]
 
 
-def reached(edges):
-    """Returns what each crate reaches in one or more steps."""
-    found = {}
-
-    def of(crate):
-        if crate not in found:
-            found[crate] = set()
-            for low in edges.get(crate, ()):
-                found[crate] |= {low} | of(low)
-        return found[crate]
-
-    for crate in edges:
-        of(crate)
-    return found
-
-
-def graph_faults(text):
-    """Yields the crates that reach others in the graph of the README than in crates.txt."""
-    drawn = {}
-    for line in (line for block in blocks(text) for line in block if "→" in line):
-        groups = [group.split(", ") for group in line.strip().split(" → ")]
-        for highs, lows in zip(groups, groups[1:]):
-            for high in highs:
-                drawn.setdefault(high, set()).update(lows)
-    crates = [crate for crate in USES if crate not in TESTS]
-    stated = reached({crate: [low for low in USES[crate] if low in USES] for crate in crates})
-    drawn = reached(drawn)
-    differ = {crate: stated[crate] ^ drawn.get(crate, set()) for crate in crates}
-    for crate in crates:
-        # A difference at a crate below is reported there.
-        if own := differ[crate].difference(
-            *(differ[low] for low in stated[crate] if low in differ)
-        ):
-            yield f"README.md: the graph is not that of crates.txt: {crate} and {', '.join(sorted(own))}"
-
-
 def layer_faults(text):
     """Yields the crates without a row in ARCHITECTURE.md, or without a layer, or with a layer
     above one they use."""
@@ -303,7 +264,7 @@ def main():
     faults = []
     for page in PAGES:
         faults += page_faults(page, page.read_text(encoding="utf-8"))
-    faults += [*graph_faults(read("README.md")), *layer_faults(read("docs/ARCHITECTURE.md"))]
+    faults += layer_faults(read("docs/ARCHITECTURE.md"))
     faults += [*number_faults(), *version_faults(), *tool_faults(), *cost_faults()]
     if not re.search(r"commit [0-9a-f]{7,}", read("docs/BENCHMARKS.md")):
         faults.append("BENCHMARKS.md: it does not name the commit that was measured")

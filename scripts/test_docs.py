@@ -6,10 +6,6 @@ import docs
 
 PAGE = docs.TOP / "docs" / "PROOFS.md"
 CRATES = [crate for crate in docs.USES if crate not in docs.TESTS]
-GRAPH = [
-    f"    {crate} → {', '.join(low for low in docs.USES[crate] if low in docs.USES)}\n"
-    for crate in CRATES
-]
 
 
 class Docs(unittest.TestCase):
@@ -30,11 +26,6 @@ class Docs(unittest.TestCase):
         for text in [*(f"`{name}`" for name in names), "[it](gone.md)", "[it](#gone)"]:
             with self.subTest(text):
                 self.assertEqual(1, len(list(docs.page_faults(PAGE, text))))
-
-    def test_the_graph_is_that_of_the_crates(self):
-        whole = [line for line in GRAPH if not line.endswith("→ \n")]
-        self.assertEqual([], list(docs.graph_faults("".join(whole))))
-        self.assertNotEqual([], list(docs.graph_faults("".join(whole[1:]))))
 
     def test_crates_above_what_they_use_are_found(self):
         self.assertLessEqual(
