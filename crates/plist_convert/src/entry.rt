@@ -14,7 +14,7 @@ use crate::printing::explain;
 use crate::random_keys::random_state;
 use crate::reading::read_words;
 use crate::request::Request;
-use plist_devices::{InputStream, Sink, Source, Stream};
+use plist_devices::{Sink, Source, Stream};
 use plist_value::FixedHasher;
 use std::alloc::Global;
 use std::hash::BuildHasher;
@@ -80,7 +80,7 @@ fn run_last<H: BuildHasher + Copy, R: Files, I: Read, O: Write>(
         (I.remaining input.new) (O.contents output.old) (O.contents output.new) result }
 {
     let mut disk = HostDisk::new(rt, hasher);
-    let mut source = InputStream::new(input);
+    let mut source = Stream::new(input);
     let mut sink = Stream::new(output);
     run_on(alloc, hasher, &mut disk, words, &mut source, &mut sink)
 }

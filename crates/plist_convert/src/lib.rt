@@ -27,7 +27,7 @@ pub use file_disk::FileDisk;
 pub use host_disk::HostDisk;
 pub use memory_files::MemoryFiles;
 pub use plist_devices::{
-    DeviceFault, InputStream, ListSink, ListSource, ReaderSource, Sink, Source, Stream, WriterSink,
+    DeviceFault, ListSink, ListSource, ReaderSource, Sink, Source, Stream, WriterSink,
     put_all,
 };
 pub use plist_forms::{

@@ -1,7 +1,6 @@
 pub mod Count
 pub mod Device
 pub mod GrowingSink
-pub mod InputStream
 pub mod ListSink
 pub mod ListSource
 pub mod ReaderSource

@@ -4,17 +4,17 @@ use Rattle.std.specs.Borrow.{GName}
 use Rattle.plist_devices.specs.declared.stream.Stream.{Stream}
 
 -- the device as it is now
-abbrev pub device_now : {O : Type 0} → Stream O → O
+abbrev pub device_now : {D : Type 0} → Stream D → D
 device_now stream = stream.device.now
 
--- the bytes taken, if the device knows them
-abbrev pub stream_taken : {O : Type 0} → (O → Option (List ℕ)) → Stream O → Option (List ℕ)
-stream_taken contents stream = contents (device_now stream)
+-- the bytes still to come, or taken, if the device knows them
+abbrev pub stream_view : {D : Type 0} → (D → Option (List ℕ)) → Stream D → Option (List ℕ)
+stream_view octets stream = octets (device_now stream)
 
 -- the borrowed device
-abbrev pub stream_device : {O : Type 0} → Stream O → Option GName
+abbrev pub stream_device : {D : Type 0} → Stream D → Option GName
 stream_device stream = Some stream.device.ghost_name
 
--- the number of puts that failed, up to the maximum
-abbrev pub stream_failures : {O : Type 0} → Stream O → ℕ
+-- the number of takes or puts that failed, up to the maximum
+abbrev pub stream_failures : {D : Type 0} → Stream D → ℕ
 stream_failures stream = stream.failures

@@ -5,7 +5,6 @@
 pub mod devices;
 mod faults;
 pub mod growing_sink;
-pub mod input_stream;
 pub mod list_sink;
 pub mod list_source;
 pub mod putting;
@@ -18,7 +17,6 @@ pub mod writer_sink;
 pub use devices::{ReadDevice, WriteDevice};
 pub use faults::DeviceFault;
 pub use growing_sink::GrowingSink;
-pub use input_stream::InputStream;
 pub use list_sink::ListSink;
 pub use list_source::ListSource;
 pub use putting::put_all;
