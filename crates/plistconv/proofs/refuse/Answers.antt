@@ -1,4 +1,4 @@
-use Rattle.std.proofs.Common.{rules, inr, List, Option, ℕ, ◌≡◌}
+use Rattle.std.proofs.Common.{rules, ap, inr, List, Option, ℕ, ◌≡◌}
 use Rattle.std.specs.Prelude.{◌<◌, ◌+◌, ◌-◌, ◌^◌, length, min, take}
 use Rattle.std.specs.Io.KnownBytes.{Appends}
 use Rattle.plist_convert.specs.Ending.{Prints}
@@ -13,4 +13,4 @@ cut old start now seen text octets taken before after wanted status same begins 
 
 pub returns-in-Err : goal.returns-in-Err
 returns-in-Err g c =
-    cut _ _ _ _ _ _ _ _ _ _ _ c.as_bytes.ensures.value c.new.ensures.taken c.new.ensures.failures (search rules) c.code.ensures.code c.in-Err.ensures.front
+    cut _ _ _ _ _ _ _ _ _ _ _ c.as_bytes.ensures.value (ap g.O.Write.contents c.new.ensures.now) c.new.ensures.failures (search rules) c.code.ensures.code c.in-Err.ensures.front
