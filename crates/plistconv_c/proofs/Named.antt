@@ -9,7 +9,7 @@ use Rattle.plist_forms.specs.declared.faults.Fault.{Fault}
 use Rattle.plist_forms.specs.declared.faults.Fault.TheVariants.{Binary, Text, NotInOpenStep, ReadFailed, WriteFailed, InputTooLarge, OutOfMemory}
 use Rattle.plistconv_c.specs.Lines.{fault_at}
 use Rattle.plistconv_c.specs.Refusals.{place_of, refusal_of, unit_of}
-use Rattle.plistconv_c.specs.declared.refusals.Refusal.{Refusal}
+use Rattle.plistconv_c.specs.declared.refusals.Refused.{Refused}
 
 -- the fault for the unit, the number and the place of a fault
 pub record IsNamed (fault : Fault) : Type 0 where
@@ -66,13 +66,13 @@ named InputTooLarge = itself _ refl
 named (OutOfMemory sent) = itself _ refl
 
 -- the fault for a refusal has the same refusal and the same line as the fault that it describes
-pub record IsNamedBy (fault : Fault) (reported : Refusal) : Type 0 where
+pub record IsNamedBy (fault : Fault) (reported : Refused) : Type 0 where
   pub one : Fault
   pub found : fault_at reported.unit reported.number reported.place ≡ Some one
   pub reported_is : reported ≡ refusal_of one reported.input
   pub printed : fault_text one ≡ fault_text fault
 
-pub named_by : (fault : Fault) → (input : ℕ) → (reported : Refusal) → reported ≡ refusal_of fault input → IsNamedBy fault reported
+pub named_by : (fault : Fault) → (input : ℕ) → (reported : Refused) → reported ≡ refusal_of fault input → IsNamedBy fault reported
 named_by fault input reported is =
     let name = named fault in
     let by : IsNamedBy fault (refusal_of fault input) =
@@ -80,7 +80,7 @@ named_by fault input reported is =
     subst (IsNamedBy fault) (sym is) by
 
 -- two faults with the same refusal have the same line
-pub printed_alike : (f : Fault) → (g : Fault) → (i : ℕ) → (j : ℕ) → (reported : Refusal) → reported ≡ refusal_of f i
+pub printed_alike : (f : Fault) → (g : Fault) → (i : ℕ) → (j : ℕ) → (reported : Refused) → reported ≡ refusal_of f i
     → reported ≡ refusal_of g j → fault_text f ≡ fault_text g
 printed_alike f g i j reported is also =
     let first = named_by f i reported is in

@@ -6,10 +6,10 @@ use Rattle.plist_forms.specs.declared.loading.TheConstants.{MAX_INPUT}
 use Rattle.plistconv_c.specs.Answers.{IsDescribed, IsMade, IsUnmade}
 use Rattle.plistconv_c.specs.Given.{IsGiven}
 use Rattle.plistconv_c.specs.Refusals.{no_refusal}
-use Rattle.plistconv_c.specs.declared.refusals.Refusal.{Refusal}
+use Rattle.plistconv_c.specs.declared.refusals.Refused.{Refused}
 use Rattle.plistconv_c.proofs.Codes.{code_above}
 
-module _ {V : Type 0} (before after : List ℕ) (count : ℕ) (reported : Refusal) (number : ℕ) where
+module _ {V : Type 0} (before after : List ℕ) (count : ℕ) (reported : Refused) (number : ℕ) where
   pub made : (items : V → List ℕ) (output : Result V Fault) (Makes : List ℕ → List ℕ → Type 0) (octets : List ℕ)
       → OnOk output (length octets ≤ MAX_INPUT) → IfOk output (λ v. Makes octets (items v)) → IfOk output (λ v. IsGiven (items v) before after count)
       → IfOk output (λ _. (number ≡ 0) × (reported ≡ no_refusal))

@@ -14,11 +14,11 @@ use Rattle.plistconv_c.specs.Given.{IsGiven}
 use Rattle.plistconv_c.specs.Inputs.{IsInputAccepted, IsInputRefused, IsCheckRefused}
 use Rattle.plistconv_c.specs.Refusals.{no_refusal, refusal_of}
 use Rattle.plistconv_c.specs.declared.checking.Finding.{Finding}
-use Rattle.plistconv_c.specs.declared.refusals.Refusal.{Refusal}
+use Rattle.plistconv_c.specs.declared.refusals.Refused.{Refused}
 
 -- the output for the input is in the buffer
 pub record IsMade (Makes : List ℕ → List ℕ → Type 0) (octets before after : List ℕ) (count : ℕ)
-    (reported : Refusal) : Type 0 where
+    (reported : Refused) : Type 0 where
   pub within : length octets ≤ MAX_INPUT
   pub output : List ℕ
   pub of : Makes octets output
@@ -26,7 +26,7 @@ pub record IsMade (Makes : List ℕ → List ℕ → Type 0) (octets before afte
   pub none : reported ≡ no_refusal
 
 -- the refusal describes the fault of the first input, and the buffer is unchanged
-pub record IsDescribed (fault : Fault) (before after : List ℕ) (count : ℕ) (reported : Refusal)
+pub record IsDescribed (fault : Fault) (before after : List ℕ) (count : ℕ) (reported : Refused)
     (number : ℕ) : Type 0 where
   pub reported_is : reported ≡ refusal_of fault 1
   pub number_reported : number ≡ reported.number
@@ -35,7 +35,7 @@ pub record IsDescribed (fault : Fault) (before after : List ℕ) (count : ℕ) (
 
 -- there is no output for this cause, the refusal describes it, and the buffer is unchanged
 pub record IsUnmade (Cause : Fault → Type 0) (before after : List ℕ) (count : ℕ)
-    (reported : Refusal) (number : ℕ) : Type 0 where
+    (reported : Refused) (number : ℕ) : Type 0 where
   pub fault : Fault
   pub cause : Cause fault
   pub described : IsDescribed fault before after count reported number
@@ -47,13 +47,13 @@ gathered_fault (OutOfMemory sent) = OutOfMemory 0
 gathered_fault fault = fault
 
 -- the input is accepted: it encodes a value
-pub record IsLinted (octets : List ℕ) (reported : Refusal) : Type 0 where
+pub record IsLinted (octets : List ℕ) (reported : Refused) : Type 0 where
   pub value : Plist
   pub accepted : IsInputAccepted octets value
   pub none : reported ≡ no_refusal
 
 -- the input is refused, and the refusal describes why
-pub record IsRefusalReported (octets : List ℕ) (reported : Refusal) (number : ℕ) : Type 0 where
+pub record IsRefusalReported (octets : List ℕ) (reported : Refused) (number : ℕ) : Type 0 where
   pub fault : Fault
   pub refused : IsInputRefused octets fault
   pub reported_is : reported ≡ refusal_of fault 1
@@ -65,7 +65,7 @@ number_of true = 1
 number_of false = 0
 
 -- both are accepted, and the result is whether their values are equal
-pub record IsCompared (first second : List ℕ) (equal : ℕ) (reported : Refusal) : Type 0 where
+pub record IsCompared (first second : List ℕ) (equal : ℕ) (reported : Refused) : Type 0 where
   pub first_within : length first ≤ MAX_INPUT
   pub second_within : length second ≤ MAX_INPUT
   pub same : Bool
@@ -80,7 +80,7 @@ pub data RefusedInput (first second : List ℕ) (fault : Fault) (input : ℕ) : 
       → RefusedInput first second fault input
 
 -- one of the two is refused, and the refusal describes why
-pub record IsRefusedPair (first second : List ℕ) (equal : ℕ) (reported : Refusal)
+pub record IsRefusedPair (first second : List ℕ) (equal : ℕ) (reported : Refused)
     (number : ℕ) : Type 0 where
   pub fault : Fault
   pub input : ℕ
@@ -95,7 +95,7 @@ finding_of Canonical = record { object = 0; canonical = 1; rule = 0 }
 finding_of (Broken rule object) = record { object = object; canonical = 0; rule = rule }
 
 -- the bytes have the layout, and the finding describes the verdict on them
-pub record IsChecked (octets : List ℕ) (finding : Finding) (reported : Refusal) : Type 0 where
+pub record IsChecked (octets : List ℕ) (finding : Finding) (reported : Refused) : Type 0 where
   pub within : length octets ≤ MAX_INPUT
   pub laid : IsLaid octets
   pub verdict : Verdict
@@ -106,7 +106,7 @@ pub record IsChecked (octets : List ℕ) (finding : Finding) (reported : Refusal
   pub none : reported ≡ no_refusal
 
 -- the input is too large, does not have the layout, or memory ran out, and the refusal says so
-pub record IsUnchecked (octets : List ℕ) (finding : Finding) (reported : Refusal)
+pub record IsUnchecked (octets : List ℕ) (finding : Finding) (reported : Refused)
     (number : ℕ) : Type 0 where
   pub fault : Fault
   pub refused : IsCheckRefused octets fault

@@ -4,7 +4,7 @@ use Rattle.plist_value.specs.declared.refusals.Place.{Place}
 use Rattle.plist_value.specs.declared.refusals.Place.TheVariants.{Nowhere, Object, Octet, After}
 use Rattle.plist_forms.specs.Fault.{code_of, report_of}
 use Rattle.plist_forms.specs.declared.faults.Fault.{Fault}
-use Rattle.plistconv_c.specs.declared.refusals.Refusal.{Refusal}
+use Rattle.plistconv_c.specs.declared.refusals.Refused.{Refused}
 
 -- the unit of a place: 0 none, 1 the number of an object, 2 the offset of a byte in the input, 3
 -- the number of bytes sent
@@ -22,7 +22,7 @@ place_of (Octet octet) = octet
 place_of (After sent) = sent
 
 -- the refusal of an input for a fault
-abbrev pub refusal_of : Fault → ℕ → Refusal
+abbrev pub refusal_of : Fault → ℕ → Refused
 refusal_of fault input =
     record {
       place = place_of (report_of fault).1;
@@ -31,5 +31,5 @@ refusal_of fault input =
       input = input;
     }
 
-abbrev pub no_refusal : Refusal
+abbrev pub no_refusal : Refused
 no_refusal = record { place = 0; number = 0; unit = 0; input = 0 }

@@ -7,7 +7,7 @@ ghost use Rattle.plist_forms.specs.declared.loading.TheConstants.{MAX_INPUT};
 ghost use Rattle.plistconv_c.specs.Answers.{IsChecked, IsUnchecked, finding_of};
 ghost use Rattle.plistconv_c.specs.Inputs.{IsCheckRefused};
 
-use crate::Refusal;
+use crate::Refused;
 use crate::inputs::admit;
 use crate::keys::keyed_hasher;
 use plist_canon::{CheckFault, Verdict, check, check_with_hasher};
@@ -41,7 +41,7 @@ pub extern "C" fn plistconv_check(
     octets: &[u8],
     key: &[u8; 16],
     finding: &mut Finding,
-    refusal: &mut Refusal,
+    refusal: &mut Refused,
 ) -> u8
     ensures checked { result ≡ 0 → IsChecked octets.now finding.new refusal.new }
     ensures refused { result ≢ 0 → IsUnchecked octets.now finding.new refusal.new result }
@@ -51,7 +51,7 @@ pub extern "C" fn plistconv_check(
         canonical: 0,
         rule: 0,
     };
-    *refusal = Refusal::none();
+    *refusal = Refused::none();
     match checked(alloc, octets, key) {
         Ok(verdict) => {
             *finding = found(verdict);

@@ -4,19 +4,19 @@ ghost use Rattle.plistconv_c.specs.Lines.{IsUnreported, fault_after, fault_at, f
 ghost use Rattle.plistconv_c.specs.Lines.{fault_at_octet, fault_nowhere};
 ghost use Rattle.plistconv_c.specs.Refusals.{refusal_of};
 
-use crate::Refusal;
+use crate::Refused;
 use ostep_text::TextFault;
 use plist_binary::BinaryFault;
 use plist_forms::Fault;
 
 // Returns a fault that the refusal describes, if there is one. Several faults can have the same
 // refusal.
-pub(crate) fn fault_of(refusal: &Refusal) -> Option<Fault>
+pub(crate) fn fault_of(refusal: &Refused) -> Option<Fault>
     ensures found { IfSome result (λ fault. refusal.now ≡ refusal_of fault refusal.now.input) }
     ensures none { result ≡ None → IsUnreported refusal.now }
 {
     let fault = fault_at(refusal.unit, refusal.number, refusal.place)?;
-    if Refusal::of(&fault, refusal.input) == *refusal {
+    if Refused::of(&fault, refusal.input) == *refusal {
         Some(fault)
     } else {
         None

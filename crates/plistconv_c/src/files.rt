@@ -6,7 +6,7 @@ ghost use Rattle.plist_forms.specs.declared.loading.TheConstants.{MAX_INPUT};
 ghost use Rattle.plistconv_c.specs.Answers.{IsCompared, IsMade, IsRefusedPair, IsUnmade};
 ghost use Rattle.plistconv_c.specs.Inputs.{IsInputRefused, IsPairRefused};
 
-use crate::Refusal;
+use crate::Refused;
 use crate::giving::give_output;
 use crate::inputs::{admit, admit_pair};
 use crate::keys::keyed_hasher;
@@ -29,7 +29,7 @@ pub extern "C" fn plistconv_canonical(
     key: &[u8; 16],
     into: &mut [u8],
     length: &mut usize,
-    refusal: &mut Refusal,
+    refusal: &mut Refused,
 ) -> u8
     ensures given { result ≡ 0
         → IsMade IsCanonicalOf octets.now into.old into.new length.new refusal.new }
@@ -66,14 +66,14 @@ pub extern "C" fn plistconv_same(
     second: &[u8],
     key: &[u8; 16],
     equal: &mut u8,
-    refusal: &mut Refusal,
+    refusal: &mut Refused,
 ) -> u8
     ensures compared { result ≡ 0 → IsCompared first.now second.now equal.new refusal.new }
     ensures refused { result ≢ 0
         → IsRefusedPair first.now second.now equal.new refusal.new result }
 {
     *equal = 0;
-    *refusal = Refusal::none();
+    *refusal = Refused::none();
     match is_same(alloc, first, second, key) {
         Ok(same) => {
             *equal = same as u8;

@@ -4,7 +4,7 @@ ghost use Rattle.plistconv_c.specs.Answers.{IsDescribed, gathered_fault};
 ghost use Rattle.plistconv_c.specs.Given.{IsGiven};
 ghost use Rattle.plistconv_c.specs.Refusals.{no_refusal};
 
-use crate::Refusal;
+use crate::Refused;
 use plist_forms::Fault;
 
 // Gives the output of a call to the caller, or describes why there is none. Returns the number of
@@ -13,7 +13,7 @@ pub(crate) fn give_output(
     output: Result<Vec<u8>, Fault>,
     into: &mut [u8],
     length: &mut usize,
-    refusal: &mut Refusal,
+    refusal: &mut Refused,
 ) -> u8
     ensures given { IfOk output (λ octets. IsGiven octets.items into.old into.new length.new) }
     ensures none { IfOk output (λ _. (result ≡ 0) × (refusal.new ≡ no_refusal)) }
@@ -21,7 +21,7 @@ pub(crate) fn give_output(
         IsDescribed fault into.old into.new length.new refusal.new result) }
 {
     *length = 0;
-    *refusal = Refusal::none();
+    *refusal = Refused::none();
     match output {
         Ok(octets) => give(&octets, into, length),
         Err(fault) => refusal.set(&fault, 1),

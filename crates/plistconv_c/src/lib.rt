@@ -1,6 +1,6 @@
 //! The C library: the functions of `plist_forms` on buffers of the caller.
 //!
-//! Each call returns 0 or the number of a refusal, which it also describes in a [`Refusal`]. Calls
+//! Each call returns 0 or the number of a refusal, which it also describes in a [`Refused`]. Calls
 //! share no state. `include/plistconv.h` documents them for C.
 #![tactic(auto)]
 
@@ -23,5 +23,5 @@ pub use lines::plistconv_line;
 pub use linting::plistconv_lint;
 pub use openstep::plistconv_text;
 pub use prints::plistconv_print;
-pub use refusals::Refusal;
+pub use refusals::Refused;
 pub use version::plistconv_version;

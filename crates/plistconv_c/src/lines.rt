@@ -3,7 +3,7 @@ ghost use Rattle.std.specs.Prelude.{◌≡◌, ◌≢◌, IfOk};
 ghost use Rattle.plist_forms.specs.Line.{line_of};
 ghost use Rattle.plistconv_c.specs.Lines.{IsLineGiven, IsNoLine};
 
-use crate::Refusal;
+use crate::Refused;
 use crate::faults::fault_of;
 use crate::giving::give;
 use plist_forms::{Fault, line};
@@ -21,7 +21,7 @@ use std::alloc::{AllocError, Global};
 pub extern "C" fn plistconv_line(
     alloc: Global,
     path: &[u8],
-    refusal: &Refusal,
+    refusal: &Refused,
     into: &mut [u8],
     length: &mut usize,
 ) -> u8

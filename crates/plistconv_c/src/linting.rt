@@ -4,7 +4,7 @@ ghost use Rattle.plist_value.specs.Plist.{Plist};
 ghost use Rattle.plistconv_c.specs.Answers.{IsLinted, IsRefusalReported};
 ghost use Rattle.plistconv_c.specs.Inputs.{IsInputAccepted, IsInputRefused};
 
-use crate::Refusal;
+use crate::Refused;
 use crate::inputs::admit;
 use plist_forms::{Fault, judge_any};
 use std::alloc::Global;
@@ -15,11 +15,11 @@ use std::alloc::Global;
 ///
 /// Returns the number of the refusal.
 #[unsafe(no_mangle)]
-pub extern "C" fn plistconv_lint(alloc: Global, octets: &[u8], refusal: &mut Refusal) -> u8
+pub extern "C" fn plistconv_lint(alloc: Global, octets: &[u8], refusal: &mut Refused) -> u8
     ensures linted { result ≡ 0 → IsLinted octets.now refusal.new }
     ensures refused { result ≢ 0 → IsRefusalReported octets.now refusal.new result }
 {
-    *refusal = Refusal::none();
+    *refusal = Refused::none();
     match judged(alloc, octets) {
         Ok(()) => 0,
         Err(fault) => refusal.set(&fault, 1),

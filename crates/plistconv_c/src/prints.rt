@@ -5,7 +5,7 @@ ghost use Rattle.plist_forms.specs.declared.loading.TheConstants.{MAX_INPUT};
 ghost use Rattle.plistconv_c.specs.Answers.{IsMade, IsUnmade};
 ghost use Rattle.plistconv_c.specs.Inputs.{IsInputRefused};
 
-use crate::Refusal;
+use crate::Refused;
 use crate::giving::{give_output, unsent};
 use crate::inputs::admit;
 use plist_devices::GrowingSink;
@@ -25,7 +25,7 @@ pub extern "C" fn plistconv_print(
     octets: &[u8],
     into: &mut [u8],
     length: &mut usize,
-    refusal: &mut Refusal,
+    refusal: &mut Refused,
 ) -> u8
     ensures given { result ≡ 0
         → IsMade IsPrintOf octets.now into.old into.new length.new refusal.new }

@@ -8,7 +8,7 @@ use plist_value::Place;
 /// Why a call was refused. All fields are 0 if it was not.
 #[repr(C)]
 #[derive(Clone, Copy, PartialEq, Eq, Drop)]
-pub struct Refusal {
+pub struct Refused {
     /// The place, in the unit of `unit`; 0 if there is none.
     pub place: u64,
     /// The number of the refusal.
@@ -20,11 +20,11 @@ pub struct Refusal {
     pub input: u8,
 }
 
-impl Refusal {
-    pub(crate) fn none() -> Refusal
+impl Refused {
+    pub(crate) fn none() -> Refused
         ensures { result ≡ no_refusal }
     {
-        Refusal {
+        Refused {
             place: 0,
             number: 0,
             unit: 0,
@@ -32,11 +32,11 @@ impl Refusal {
         }
     }
 
-    pub(crate) fn of(fault: &Fault, input: u8) -> Refusal
+    pub(crate) fn of(fault: &Fault, input: u8) -> Refused
         ensures { result ≡ refusal_of fault.now input }
     {
         let report = fault.report();
-        Refusal {
+        Refused {
             place: place(report.1),
             number: fault.code(),
             unit: unit(report.1),
@@ -50,7 +50,7 @@ impl Refusal {
         ensures number { result ≡ self.new.number }
         ensures above { 0 < result }
     {
-        *self = Refusal::of(fault, input);
+        *self = Refused::of(fault, input);
         self.number
     }
 }

@@ -1,11 +1,11 @@
 use Rattle.std.proofs.Common.{◌≡◌, ◌==◌, ◌&&◌, ◌∙◌, ℕ, true, sym, ap}
 use Rattle.std.proofs.lemmas.Bool.{and_parts}
 use Rattle.std.proofs.lemmas.Bool.Decides.{Decides-eqb}
-use Rattle.plistconv_c.specs.declared.refusals.Refusal.{Refusal}
+use Rattle.plistconv_c.specs.declared.refusals.Refused.{Refused}
 use Rattle.plistconv_c.proofs.faults.fault_of.Goals as goal
 
 -- two refusals with equal fields are equal
-same_fields : (a b : Refusal)
+same_fields : (a b : Refused)
     → ((a.place == b.place) && ((a.number == b.number) && ((a.unit == b.unit) && (a.input == b.input)))) ≡ true
     → a ≡ b
 same_fields a b e =
