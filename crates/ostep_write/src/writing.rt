@@ -1,7 +1,7 @@
 //! Writes the OpenStep text of a binary file's value to a sink.
 ghost use Rattle.std.specs.Prelude.{◌≡◌, ◌++◌, codes, true};
 ghost use Rattle.plist_value.specs.Plist.{Plist};
-ghost use Rattle.plist_object.specs.KeyOrder.{IsReady};
+ghost use Rattle.plist_keys.specs.KeyOrder.{IsReady};
 ghost use Rattle.plist_object.specs.Spelled.{IsBinary};
 ghost use Rattle.plist_object.specs.Views.{octets_of};
 ghost use Rattle.plist_write.specs.Sending.{IsWritten};
@@ -12,7 +12,7 @@ ghost use Rattle.ostep_write.specs.Writing.{written_parts};
 use crate::data::write_data;
 use crate::strings::write_string;
 use plist_devices::Sink;
-use plist_object::JudgedFile;
+use plist_keys::JudgedFile;
 use plist_value::{ScalarRef, TextRef};
 use plist_write::{BufferedSink, Mark, Notation, WriteFault, write_in_notation};
 use std::alloc::Global;

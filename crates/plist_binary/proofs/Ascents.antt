@@ -16,7 +16,7 @@ use Rattle.std.proofs.lemmas.List.Elements.{All-tail}
 use Rattle.std.proofs.lemmas.List.Sorted.{IsPermutation-map, IsPermutation-to_front, All-permutation}
 use Rattle.std.proofs.lemmas.Map.Made.{keys_of-zip}
 use Rattle.std.proofs.lemmas.Map.Keys.{sorted_head, sorted_tail, IsDistinct-head, IsDistinct-tail, IsDistinct-IsPermutation}
-pub use Rattle.plist_object.proofs.Ascents.{AscendTo, ascend_next, ascend_more, not_ascending, sorted_from_ascent, same_key, ascent_from_distinct, distinct_from_ascent, distinct_moved}
+pub use Rattle.plist_keys.proofs.Ascents.{AscendTo, ascend_next, ascend_more, not_ascending, sorted_from_ascent, same_key, ascent_from_distinct, distinct_from_ascent, distinct_moved}
 use Rattle.plist_value.specs.declared.value.Value.{Value}
 use Rattle.plist_value.specs.declared.value.Value.TheVariants.{Flag}
 use Rattle.plist_binary.specs.declared.dictionary.Key.{Key}

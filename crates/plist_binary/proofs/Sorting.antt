@@ -12,10 +12,11 @@ use Rattle.std.proofs.lemmas.Map.Keys.{IsDistinct-IsPermutation}
 use Rattle.plist_value.specs.Limits.{nodes_of_items, depth_of_items}
 use Rattle.plist_value.specs.declared.budget.Budget.{Budget}
 use Rattle.plist_value.specs.Budget.{Spends}
-use Rattle.plist_object.specs.Order.{Ascend, IsInOrder, NameTexts, strings_at, units_in}
+use Rattle.plist_keys.specs.Order.{Ascend, IsInOrder, NameTexts, strings_at}
+use Rattle.plist_object.specs.Places.{units_in}
 use Rattle.plist_object.specs.Places.{what_holds}
 use Rattle.plist_object.specs.Spelled.{SpellItems}
-use Rattle.plist_object.proofs.Ascents.{same_key, strict_from_distinct}
+use Rattle.plist_keys.proofs.Ascents.{same_key, strict_from_distinct}
 use Rattle.plist_binary.proofs.ItemSteps.{Spends-then, Spends-none}
 use Rattle.plist_binary.specs.Readings.{ReadsItems, texts}
 use Rattle.plist_binary.specs.Recalls.{SpellApart, ReadsApart}

@@ -1,6 +1,6 @@
 -- The progress of a walk.
 use Rattle.std.specs.Prelude.{ℕ, List}
-use Rattle.plist_object.specs.KeyOrder.{IsReady}
+use Rattle.plist_keys.specs.KeyOrder.{IsReady}
 use Rattle.plist_binary.specs.declared.progress.Progress.{Progress}
 use Rattle.plist_binary.specs.States.{AreStates, AreStatesBut, HaveTexts}
 use Rattle.plist_binary.specs.Passing.{IsWithinLimits}

@@ -3,7 +3,7 @@
 ghost use Rattle.std.specs.Prelude.{◌≡◌, ◌≢◌, IfOk, IfErr, OnOk};
 ghost use Rattle.plist_value.specs.Plist.{Plist};
 ghost use Rattle.plist_value.specs.Writable.{is_writable};
-ghost use Rattle.plist_object.specs.KeyOrder.{IsReady};
+ghost use Rattle.plist_keys.specs.KeyOrder.{IsReady};
 ghost use Rattle.plist_object.specs.Spelled.{IsBinary};
 ghost use Rattle.plist_object.specs.Views.{octets_of};
 ghost use Rattle.plist_binary.specs.Faults.{Stands};
@@ -11,7 +11,8 @@ ghost use Rattle.plist_binary.specs.Faults.{Stands};
 use crate::BinaryFault;
 use crate::visiting::Visitor;
 use crate::walking::Walker;
-use plist_object::{BinFile, JudgedFile};
+use plist_keys::JudgedFile;
+use plist_object::BinFile;
 use std::alloc::Global;
 
 /// Validates a binary property list: returns the fault that `read` would return, without building

@@ -8,7 +8,8 @@ ghost use Rattle.plist_binary.specs.Progress.{IsProgress};
 
 use crate::last_keys::LastKeys;
 use crate::states::{ObjectState, ValueSize, state_at};
-use plist_object::{BinFile, KeyOrder};
+use plist_keys::KeyOrder;
+use plist_object::BinFile;
 use plist_value::Budget;
 use std::alloc::Global;
 

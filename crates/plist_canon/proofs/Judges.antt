@@ -19,8 +19,8 @@ use Rattle.plist_object.specs.Objects.{Content, holds_scalar, holds_list, holds_
 use Rattle.plist_object.specs.Places.{Holds, object_at, place_of, what_holds, span_of, HoldsText}
 use Rattle.plist_object.proofs.Readable.{Holds-reads}
 use Rattle.plist_canon.specs.Rules.{HoldTexts, IsWellRead, HasAscendingKeys, Adjoins}
-use Rattle.plist_object.specs.Ascending.{AscendInTurn}
-use Rattle.plist_object.proofs.KeysInTurn.{same_text}
+use Rattle.plist_keys.specs.Ascending.{AscendInTurn}
+use Rattle.plist_keys.proofs.KeysInTurn.{same_text}
 use Rattle.plist_canon.specs.Checking.{RefersWell, IsEndBefore, Follows}
 
 pub every_append : {X : Type 0} (P : X → Type 0) (xs ys : List X) → AllByRecursion P xs → AllByRecursion P ys → AllByRecursion P (xs ++ ys)

@@ -1,7 +1,7 @@
 //! The rules about the trailer and about each object.
 ghost use Rattle.std.specs.Prelude.{◌≡◌, ◌↔◌, ◌<◌, ◌≤◌, ℕ, IsTrue, Ok, length};
 ghost use Rattle.std.specs.Prelude.{IfOk, IfErr, OnOk, take};
-ghost use Rattle.plist_object.specs.KeyOrder.{IsReady};
+ghost use Rattle.plist_keys.specs.KeyOrder.{IsReady};
 ghost use Rattle.plist_object.specs.Layout.{trailer_of};
 ghost use Rattle.plist_object.specs.Objects.{IsContent};
 ghost use Rattle.plist_object.specs.Places.{Holds, span_of};
@@ -18,7 +18,8 @@ use crate::references::judge_references;
 use crate::repeats::judge_repeats;
 use crate::rule::Rule;
 use crate::visited::Visited;
-use plist_object::{BinFile, KeyOrder, Spanned, begins_canonically, width_of};
+use plist_keys::KeyOrder;
+use plist_object::{BinFile, Spanned, begins_canonically, width_of};
 use plist_write::RepeatFilterBuilder;
 use std::alloc::{AllocError, AllocFailed, Global};
 use std::hash::BuildHasher;

@@ -1,6 +1,6 @@
 //! The rules about references.
 ghost use Rattle.std.specs.Prelude.{◌<◌, ◌↔◌, IsTrue, EachIndex, IfOk, IfErr, OnOk, slice_index};
-ghost use Rattle.plist_object.specs.KeyOrder.{IsReady};
+ghost use Rattle.plist_keys.specs.KeyOrder.{IsReady};
 ghost use Rattle.plist_object.specs.Objects.{holds_list, holds_table};
 ghost use Rattle.plist_object.specs.Places.{Holds};
 ghost use Rattle.plist_object.specs.Views.{held_of, numbers_of, octets_of};
@@ -10,7 +10,8 @@ ghost use Rattle.plist_canon.specs.Checking.{IsFlaw, RefersWell};
 use crate::judging::Flaw;
 use crate::offsets::judge_offsets;
 use crate::rule::Rule;
-use plist_object::{BinFile, KeyOrder, Object, Refs};
+use plist_keys::KeyOrder;
+use plist_object::{BinFile, Object, Refs};
 use std::alloc::Global;
 
 // Validates rule 0 for the references of object `i`, and returns whether rule 5 holds.

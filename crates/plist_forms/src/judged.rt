@@ -1,6 +1,6 @@
 //! The binary file that encodes the value of an input: the input itself, or the draft of a text.
 ghost use Rattle.std.specs.Prelude.{◌≡◌, ℕ, List, IfOk, IfErr};
-ghost use Rattle.plist_object.specs.KeyOrder.{IsReady};
+ghost use Rattle.plist_keys.specs.KeyOrder.{IsReady};
 ghost use Rattle.plist_object.specs.Layout.{IsLaid};
 ghost use Rattle.plist_object.specs.Views.{octets_of};
 ghost use Rattle.plist_forms.specs.Judged.{Encodes, IsReadFrom, octets_in};
@@ -10,7 +10,8 @@ use crate::Fault;
 use crate::canonicals::begins_as_binary;
 use ostep_text::draft_text;
 use plist_binary::judge_file;
-use plist_object::{BinFile, JudgedFile};
+use plist_keys::JudgedFile;
+use plist_object::BinFile;
 use std::alloc::Global;
 use std::convert::AsSlice;
 

@@ -1,6 +1,6 @@
 //! Writing the OpenStep text of an input.
 ghost use Rattle.std.specs.Prelude.{◌≡◌, ℕ, List, true, IfErr, IfOk};
-ghost use Rattle.plist_object.specs.KeyOrder.{IsReady};
+ghost use Rattle.plist_keys.specs.KeyOrder.{IsReady};
 ghost use Rattle.plist_object.specs.Views.{octets_of};
 ghost use Rattle.plist_forms.specs.Judged.{Encodes, IsReadFrom};
 ghost use Rattle.plist_forms.specs.Output.{IsOutputFault};
@@ -12,7 +12,7 @@ use crate::forms::Form;
 use crate::judged::Binary;
 use ostep_write::write_text_of;
 use plist_devices::Sink;
-use plist_object::JudgedFile;
+use plist_keys::JudgedFile;
 use std::alloc::Global;
 use std::convert::AsSlice;
 

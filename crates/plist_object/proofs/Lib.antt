@@ -14,11 +14,3 @@ pub mod Readable
 pub mod ReadReferences
 pub mod ReadScalars
 pub mod SameOctets
-pub mod Ranked
-pub mod KeyOrders
-pub mod PrefixSteps
-pub mod SortedRuns
-pub mod Ascents
-pub mod KeysInTurn
-pub mod Widths
-pub mod Alike

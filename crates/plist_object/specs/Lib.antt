@@ -18,8 +18,3 @@ pub mod Codes
 pub mod Laws
 pub mod Shortest
 pub mod Heads
-pub mod Ranks
-pub mod Order
-pub mod Ascending
-pub mod KeyOrder
-pub mod Prefixes

@@ -152,3 +152,15 @@ marked_object width high low octets =
 abbrev pub object_in : ℕ → List ℕ → Result (Content × List ℕ) ObjectFault
 object_in width [] = Err CutObject
 object_in width (marker ∷ octets) = marked_object width (marker / 16) (marker % 16) octets
+
+-- the count, or 0 for an error
+abbrev pub count_or_zero : Result (ℕ × List ℕ × List ℕ) ObjectFault → ℕ
+count_or_zero (Ok counted) = counted.0
+count_or_zero (Err e) = 0
+
+-- the length of the string that begins with these bytes if it is marked as an ASCII string and is
+-- not cut, or 0
+abbrev pub ascii_length : List ℕ → ℕ
+ascii_length [] = 0
+ascii_length (marker ∷ octets) =
+    if marker / 16 == 5 then count_or_zero (content 1 (marker % 16) octets) else 0

@@ -1,10 +1,11 @@
 -- Where the objects of a file with the layout are, and their content.
 use Rattle.std.specs.Prelude.{◌≡◌, ℕ, ◌+◌, ◌-◌, ◌*◌, ◌<◌, nat_lt, nat_le, ◌&&◌, if◌then◌else◌, List}
-use Rattle.std.specs.Prelude.{length, take, drop, slice_index_or, Result, Ok, Err}
+use Rattle.std.specs.Prelude.{[], length, take, drop, slice_index_or, Result, Ok, Err}
 use Rattle.byteorder.specs.Endian.{big_number}
 use Rattle.plist_value.specs.Plist.{Scalar, text}
 use Rattle.plist_object.specs.Layout.{trailer_of}
-use Rattle.plist_object.specs.Objects.{Content, holds_scalar, object_in, ◌>>=◌}
+use Rattle.plist_object.specs.Objects.{Content, holds_scalar, holds_list, holds_table}
+use Rattle.plist_object.specs.Objects.{ascii_length, object_in, ◌>>=◌}
 use Rattle.plist_object.specs.declared.object.ObjectFault.{ObjectFault}
 use Rattle.plist_object.specs.declared.object.ObjectFault.TheVariants.{BadOffset}
 
@@ -29,6 +30,11 @@ abbrev pub marker_at : List ℕ → ℕ → ℕ
 marker_at f i = let place = place_of f i in if nat_lt place (trailer_of f).table
     then slice_index_or f place 0 else 0
 
+-- the length of an ASCII string, or 0
+abbrev pub ascii_length_of : Result (List ℕ) ObjectFault → ℕ
+ascii_length_of (Ok octets) = ascii_length octets
+ascii_length_of (Err e) = 0
+
 -- the content of object i and the bytes after it up to the offset table, or its first error
 unfoldable pub object_at : List ℕ → ℕ → Result (Content × List ℕ) ObjectFault
 object_at f i = do
@@ -41,11 +47,23 @@ what_holds f i = do
   read ← object_at f i
   Ok read.0
 
+-- the units of a string, and none of anything else
+abbrev pub units_in : Result Content ObjectFault → List ℕ
+units_in (Ok (holds_scalar (text units))) = units
+units_in (Ok (holds_scalar s)) = []
+units_in (Ok (holds_list refs)) = []
+units_in (Ok (holds_table keys values)) = []
+units_in (Err e) = []
+
 -- the offset of object i and that of the first byte after it, or its first error
 unfoldable pub span_of : List ℕ → ℕ → Result (ℕ × ℕ) ObjectFault
 span_of f i = do
   read ← object_at f i
   Ok (place_of f i, (trailer_of f).table - length read.1)
+
+-- the length of the string of object i if it is marked as an ASCII string and is not cut, or 0
+abbrev pub ascii_length_at : List ℕ → ℕ → ℕ
+ascii_length_at f i = ascii_length_of (octets_at f i)
 
 -- object i is one of the file's, and this is its content
 pub record Holds (f : List ℕ) (i : ℕ) (held : Content) : Type 0 where

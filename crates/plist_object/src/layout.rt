@@ -127,7 +127,7 @@ impl<'a> BinFile<'a> {
     ghost use Rattle.plist_value.specs.Plist.{AreUnits, text};
     ghost use Rattle.plist_value.specs.Texts.{units_of};
     ghost use Rattle.plist_object.specs.Objects.{IsContent, holds_scalar};
-    ghost use Rattle.plist_object.specs.Places.{Holds, marker_at, octets_at, octets_from};
+    ghost use Rattle.plist_object.specs.Places.{Holds, ascii_length_at, marker_at, octets_at, octets_from};
     ghost use Rattle.plist_object.specs.Places.{object_at, place_of, span_of, what_holds};
     ghost use Rattle.plist_object.specs.Shortest.{IsShortest, IsSpelledScalar};
     ghost use Rattle.plist_object.specs.Views.{Gives, held_of, octets_of};
@@ -273,9 +273,11 @@ impl<'a> BinFile<'a> {
         reading::ascii_text(octets)
     }
 
-    // Returns the number of bytes of object `n` if it is marked as an ASCII string, and else 0.
-    pub(crate) fn ascii_length(&self, n: u64) -> u64
+    /// Returns the number of bytes of the string of object `n` if it is marked as an ASCII string
+    /// and is not cut, and else 0. Some of the bytes may not be ASCII. `n` is below `count`.
+    pub fn ascii_length(&self, n: u64) -> u64
         requires { n < (trailer_of (octets_of self.now)).count }
+        ensures { result ≡ ascii_length_at (octets_of self.now) n }
     {
         match self.octets_at(n) {
             Ok(octets) => reading::ascii_length(octets),

@@ -20,11 +20,13 @@ pub(crate) const WIDE: u8 = 0x6;
 
 pub(crate) const UID: u8 = 0x8;
 
-pub(crate) const LIST: u8 = 0xa;
+/// The high 4 bits of the marker of an array.
+pub const LIST: u8 = 0xa;
 
 pub(crate) const SET: u8 = 0xc;
 
-pub(crate) const TABLE: u8 = 0xd;
+/// The high 4 bits of the marker of a dictionary.
+pub const TABLE: u8 = 0xd;
 
 // Complete markers: null, false and true, integers of `n` bytes (`WHOLE_n`), reals of 4 and of 8
 // bytes, and dates.

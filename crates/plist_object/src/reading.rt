@@ -4,7 +4,7 @@ ghost use Rattle.std.specs.Prelude.{◌≡◌, ◌≢◌, ◌+◌, ◌*◌, ◌<
 ghost use Rattle.std.specs.Prelude.{IfOk, IfSome, Ok, ℕ};
 ghost use Rattle.byteorder.specs.Endian.{big_number};
 ghost use Rattle.plist_object.specs.Objects.{IsContent, holds_scalar, cut, integer_length};
-ghost use Rattle.plist_object.specs.Objects.{count_spelled, content, whole_in};
+ghost use Rattle.plist_object.specs.Objects.{ascii_length, count_or_zero, count_spelled, content, whole_in};
 ghost use Rattle.plist_object.specs.Objects.{simple_object, whole_object, real_object};
 ghost use Rattle.plist_object.specs.Objects.{moment_object, data_object, ascii_object, wide_object};
 ghost use Rattle.plist_object.specs.Objects.{list_object, table_object, marked_object, object_in};
@@ -316,14 +316,18 @@ pub(crate) fn ascii_text(octets: &[u8]) -> Option<TextRef<'_>>
 // Returns the number of bytes of the object at the start, if it is marked as an ASCII string and
 // not cut, and else 0. Other objects that are no strings are refused without reading what they
 // contain.
-pub(crate) fn ascii_length(octets: &[u8]) -> u64 {
+pub(crate) fn ascii_length(octets: &[u8]) -> u64
+    ensures { result ≡ ascii_length octets.now }
+{
     match octets.split_first() {
         Some((marker, octets)) if marker / 16 == ASCII => length_in(octets, marker % 16),
         _ => 0,
     }
 }
 
-fn length_in(octets: &[u8], low: u8) -> u64 {
+fn length_in(octets: &[u8], low: u8) -> u64
+    ensures { result ≡ count_or_zero (content 1 low octets.now) }
+{
     match content(octets, low, 1) {
         Ok((ascii, _)) => ascii.count,
         Err(_) => 0,

@@ -1,6 +1,6 @@
 //! The references of a container.
 ghost use Rattle.std.specs.Prelude.{◌≡◌, ◌+◌, ◌*◌, ◌<◌, ◌≤◌, ◌==◌, ◌↔◌};
-ghost use Rattle.std.specs.Prelude.{IsTrue, length, slice_index, drop};
+ghost use Rattle.std.specs.Prelude.{IsTrue, [], length, slice_index, drop};
 ghost use Rattle.byteorder.specs.Endian.{big_number};
 
 use byteorder::{BigEndian, ByteOrder};
@@ -32,6 +32,13 @@ impl<'a> Refs<'a> {
             width: usize::from(width),
             count,
         }
+    }
+
+    /// Returns no references.
+    pub fn none() -> Refs<'a>
+        ensures { numbers_of result ≡ [] }
+    {
+        Refs::of(&[], 1, 0)
     }
 
     /// Returns the number of references.

@@ -1,7 +1,7 @@
 //! Prints the value of a binary file to a sink.
 ghost use Rattle.std.specs.Prelude.{◌≡◌};
 ghost use Rattle.plist_value.specs.Plist.{Plist};
-ghost use Rattle.plist_object.specs.KeyOrder.{IsReady};
+ghost use Rattle.plist_keys.specs.KeyOrder.{IsReady};
 ghost use Rattle.plist_object.specs.Spelled.{IsBinary};
 ghost use Rattle.plist_object.specs.Views.{octets_of};
 ghost use Rattle.plist_write.specs.Sending.{IsWritten};
@@ -11,7 +11,7 @@ ghost use Rattle.plist_print.specs.Printing.{printed_parts};
 use crate::layout::{begin_line, begin_pair};
 use crate::lines::print_scalar;
 use plist_devices::Sink;
-use plist_object::JudgedFile;
+use plist_keys::JudgedFile;
 use plist_value::{ScalarRef, TextRef};
 use plist_write::{BufferedSink, Mark, Notation, WriteFault, write_in_notation};
 use std::alloc::Global;

@@ -16,7 +16,8 @@ use Rattle.plist_value.specs.Plist.{Pairs, no_pairs, pair}
 use Rattle.plist_object.proofs.Ascending.{same_order}
 use Rattle.plist_object.specs.Places.{what_holds, HoldsText}
 use Rattle.plist_object.specs.Spelled.{SpellPairs}
-use Rattle.plist_object.specs.Order.{IsInOrder, NameTexts, pair_of, strings_at, units_in}
+use Rattle.plist_keys.specs.Order.{IsInOrder, NameTexts, pair_of, strings_at}
+use Rattle.plist_object.specs.Places.{units_in}
 use Rattle.plist_write.specs.Spelling.{IsTableOf, SpellTable, sorted_references}
 use Rattle.plist_object.proofs.Uniqueness.{key_of, by_key, by_key_total, rows_ascend}
 use Rattle.plist_value.proofs.Keys.{turned}

@@ -1,14 +1,14 @@
 //! The canonical file, in memory.
 ghost use Rattle.std.specs.Prelude.{◌≡◌, IfOk};
 ghost use Rattle.plist_value.specs.Plist.{Plist};
-ghost use Rattle.plist_object.specs.KeyOrder.{IsReady};
+ghost use Rattle.plist_keys.specs.KeyOrder.{IsReady};
 ghost use Rattle.plist_object.specs.Spelled.{IsBinary};
 ghost use Rattle.plist_object.specs.Views.{octets_of};
 ghost use Rattle.plist_write.specs.Canonical.{canon};
 
 use crate::sending::write_canonical_of;
 use plist_devices::GrowingSink;
-use plist_object::JudgedFile;
+use plist_keys::JudgedFile;
 use std::alloc::{AllocError, Global};
 use std::hash::BuildHasher;
 

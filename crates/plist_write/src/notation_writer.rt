@@ -4,7 +4,7 @@ ghost use Rattle.plist_value.specs.Plist.{Plist, Items, Pairs, list, table, text
 ghost use Rattle.plist_value.specs.Plist.{IsPlist, AreItems, ArePairs};
 ghost use Rattle.plist_value.specs.declared.TheConstants.{MAX_DEPTH};
 ghost use Rattle.plist_object.specs.Objects.{holds_scalar};
-ghost use Rattle.plist_object.specs.KeyOrder.{IsReady};
+ghost use Rattle.plist_keys.specs.KeyOrder.{IsReady};
 ghost use Rattle.plist_object.specs.Places.{Holds, HoldsText};
 ghost use Rattle.plist_object.specs.Spelled.{IsBinary, Spells, SpellItems, SpellPairs};
 ghost use Rattle.plist_object.specs.Spelled.{SpellsWithin};
@@ -21,7 +21,8 @@ use crate::objects::object_of;
 use crate::order::sorted_references;
 use crate::{BufferedSink, WriteFault};
 use plist_devices::Sink;
-use plist_object::{BinFile, JudgedFile, KeyOrder, Object, Refs, text_of};
+use plist_keys::{JudgedFile, KeyOrder, text_of};
+use plist_object::{BinFile, Object, Refs};
 use std::alloc::Global;
 
 /// Writes the text of the file's value, object by object, and returns its length in bytes. Neither

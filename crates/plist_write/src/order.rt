@@ -3,10 +3,11 @@ ghost use Rattle.std.specs.Prelude.{◌≡◌, ◌++◌, ◌<◌, ℕ, List, All
 ghost use Rattle.std.specs.Prelude.{slice_index};
 ghost use Rattle.plist_value.specs.Plist.{Pairs};
 ghost use Rattle.plist_object.specs.Views.{numbers_of, octets_of};
-ghost use Rattle.plist_object.specs.KeyOrder.{IsReady};
+ghost use Rattle.plist_keys.specs.KeyOrder.{IsReady};
 ghost use Rattle.plist_write.specs.Spelling.{IsTableOf, SpellTable, sorted_references};
 
-use plist_object::{BinFile, KeyOrder, Refs, to_u32};
+use plist_keys::KeyOrder;
+use plist_object::{BinFile, Refs, to_u32};
 use std::alloc::{AllocError, Global};
 
 // Appends the references to a dictionary's keys, in ascending order of the keys, and then the

@@ -5,7 +5,7 @@ ghost use Rattle.plist_value.specs.Plist.{Pairs};
 ghost use Rattle.plist_object.specs.Layout.{trailer_of};
 ghost use Rattle.plist_object.specs.Views.{numbers_of, octets_of};
 ghost use Rattle.plist_write.specs.ObjectNumbers.{IsNumber, kept};
-ghost use Rattle.plist_object.specs.KeyOrder.{IsReady};
+ghost use Rattle.plist_keys.specs.KeyOrder.{IsReady};
 ghost use Rattle.plist_write.specs.Spelling.{IsTableOf, SpellTable, sorted_references};
 ghost use Rattle.plist_write.specs.Plan.{BeginsContainer, IsEmptyPlan, IsUnseen};
 ghost use Rattle.plist_write.specs.Plan.{KnowsScalars, MeetsScalar, NumbersScalar};
@@ -13,7 +13,8 @@ ghost use Rattle.plist_write.specs.Plan.{KnowsScalars, MeetsScalar, NumbersScala
 use crate::object_numbers::{ObjectNumbers, UNIQUE};
 use crate::order::{push_all, push_sorted};
 use crate::scalar_numbers::ScalarNumbers;
-use plist_object::{BinFile, KeyOrder, Refs, to_u32};
+use plist_keys::KeyOrder;
+use plist_object::{BinFile, Refs, to_u32};
 use plist_value::{MAX_NODES, ScalarRef};
 use std::alloc::{AllocError, Global};
 use std::hash::BuildHasher;

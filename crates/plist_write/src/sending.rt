@@ -2,7 +2,7 @@
 ghost use Rattle.std.specs.Prelude.{◌≡◌, ◌+◌, ◌<◌, ◌≤◌, ◌-◌, ◌^◌, ◌∷◌, [], ℕ, length, IfOk};
 ghost use Rattle.std.specs.List.{concat};
 ghost use Rattle.plist_value.specs.Plist.{Plist, bytes};
-ghost use Rattle.plist_object.specs.KeyOrder.{IsReady};
+ghost use Rattle.plist_keys.specs.KeyOrder.{IsReady};
 ghost use Rattle.plist_object.specs.Layout.{header};
 ghost use Rattle.plist_object.specs.Sizes.{IsWidth};
 ghost use Rattle.plist_object.specs.Spelled.{IsBinary};
@@ -25,7 +25,8 @@ use crate::renumbering::renumbered_object;
 use crate::walk::objects_of;
 use crate::{BufferedSink, WriteFault};
 use plist_devices::Sink;
-use plist_object::{BinFile, HEADER, JudgedFile, put_data_head, width_of};
+use plist_keys::JudgedFile;
+use plist_object::{BinFile, HEADER, put_data_head, width_of};
 use plist_value::ScalarRef;
 use std::alloc::Global;
 use std::hash::BuildHasher;

@@ -4,14 +4,15 @@ ghost use Rattle.plist_value.specs.Plist.{Plist};
 ghost use Rattle.plist_object.specs.Spelled.{IsBinary, SpellsWithin};
 ghost use Rattle.plist_object.specs.Views.{octets_of};
 ghost use Rattle.plist_write.specs.Spelling.{SpellWithin};
-ghost use Rattle.plist_object.specs.KeyOrder.{IsReady};
+ghost use Rattle.plist_keys.specs.KeyOrder.{IsReady};
 ghost use Rattle.plist_write.specs.Plan.{AreObjectsOf, AreWalked, IsWalked, KnowsScalars};
 ghost use Rattle.plist_write.specs.ObjectNumbers.{kept};
 
 use crate::object_numbers::UNIQUE;
 use crate::objects::object_of;
 use crate::plan::{CanonicalObjects, Plan};
-use plist_object::{BinFile, KeyOrder, Object};
+use plist_keys::KeyOrder;
+use plist_object::{BinFile, Object};
 use plist_value::MAX_DEPTH;
 use std::alloc::{AllocError, Global};
 use std::hash::BuildHasher;

@@ -3,7 +3,7 @@ use Rattle.plist_object.specs.Places.{place_of}
 use Rattle.plist_object.specs.Views.{held_of, octets_of}
 use Rattle.plist_canon.specs.Rules.{breaks_c3, breaks_c4}
 use Rattle.plist_object.proofs.Readable.{Holds-reads}
-use Rattle.plist_object.proofs.KeysInTurn.{refuted}
+use Rattle.plist_keys.proofs.KeysInTurn.{refuted}
 use Rattle.plist_canon.proofs.Judges.{not-Adjoins, span-offset}
 use Rattle.plist_canon.proofs.Occupied.{Holds-inside, begins-shortest}
 use Rattle.plist_canon.proofs.judging.judge_encoding.Goals as goal

@@ -1,6 +1,6 @@
 use Rattle.plist_object.specs.Places.{Holds}
 use Rattle.plist_object.specs.Views.{held_of, octets_of}
-use Rattle.plist_object.proofs.KeysInTurn.{refuted}
+use Rattle.plist_keys.proofs.KeysInTurn.{refuted}
 use Rattle.plist_canon.specs.Rules.{HasAscendingKeys, breaks_c0, breaks_c5}
 use Rattle.plist_canon.proofs.Judges.{unread}
 use Rattle.plist_canon.proofs.judging.judge_object.Goals as goal

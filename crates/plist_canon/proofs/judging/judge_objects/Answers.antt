@@ -1,7 +1,7 @@
 use Rattle.std.proofs.Common.{◌≡◌, ℕ, sym, subst, arith}
 use Rattle.plist_object.specs.Views.{octets_of}
 use Rattle.plist_object.specs.Layout.{trailer_of}
-use Rattle.plist_object.proofs.KeysInTurn.{below_or_last}
+use Rattle.plist_keys.proofs.KeysInTurn.{below_or_last}
 use Rattle.plist_write.specs.RepeatFilter.{AreAdded}
 use Rattle.plist_canon.specs.Checking.{IsJudged, IsEndBefore}
 use Rattle.plist_canon.specs.Steps.{Walked}

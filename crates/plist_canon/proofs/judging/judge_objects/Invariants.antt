@@ -1,5 +1,5 @@
 use Rattle.std.proofs.Common.{ℕ, ◌<◌}
-use Rattle.plist_object.specs.KeyOrder.{IsReady}
+use Rattle.plist_keys.specs.KeyOrder.{IsReady}
 use Rattle.plist_object.specs.Views.{octets_of}
 use Rattle.plist_canon.specs.Checking.{IsJudged}
 use Rattle.plist_canon.specs.Visited.{AreVisited}

@@ -1,6 +1,6 @@
 use Rattle.plist_object.specs.Views.{octets_of}
 use Rattle.plist_canon.specs.Rules.{HasPlainTrailer, HasLeastWidths, breaks_c1, breaks_c2}
-use Rattle.plist_object.proofs.KeysInTurn.{refuted}
+use Rattle.plist_keys.proofs.KeysInTurn.{refuted}
 use Rattle.plist_canon.proofs.judging.judge_trailer.Goals as goal
 
 pub returns-then-not-has_plain_trailer-clause-err : goal.returns-then-not-has_plain_trailer-clause-err

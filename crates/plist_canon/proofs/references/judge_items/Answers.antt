@@ -2,7 +2,7 @@ use Rattle.std.proofs.Common.{◌<◌}
 use Rattle.std.specs.Prelude.{EachIndex, slice_index}
 use Rattle.plist_object.specs.Objects.{holds_list}
 use Rattle.plist_object.specs.Views.{numbers_of, octets_of}
-use Rattle.plist_object.proofs.KeysInTurn.{refuted}
+use Rattle.plist_keys.proofs.KeysInTurn.{refuted}
 use Rattle.plist_canon.specs.Rules.{breaks_c0}
 use Rattle.plist_canon.proofs.Judges.{IsWellRead-refers, RefersWell-list}
 use Rattle.plist_canon.proofs.references.judge_items.Goals as goal

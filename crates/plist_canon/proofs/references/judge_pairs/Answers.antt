@@ -2,10 +2,10 @@ use Rattle.std.proofs.Common.{◌<◌, refl}
 use Rattle.std.specs.Prelude.{EachIndex, IsTrue, ◌↔◌, slice_index}
 use Rattle.plist_object.specs.Layout.{trailer_of}
 use Rattle.plist_object.specs.Objects.{holds_table}
-use Rattle.plist_object.specs.Order.{NameTexts}
-use Rattle.plist_object.specs.Ascending.{AreAscending, AscendInTurn}
+use Rattle.plist_keys.specs.Order.{NameTexts}
+use Rattle.plist_keys.specs.Ascending.{AreAscending, AscendInTurn}
 use Rattle.plist_object.specs.Views.{numbers_of, octets_of}
-use Rattle.plist_object.proofs.KeysInTurn.{refuted}
+use Rattle.plist_keys.proofs.KeysInTurn.{refuted}
 use Rattle.plist_canon.specs.Rules.{breaks_c0}
 use Rattle.plist_canon.proofs.Judges.{HasAscendingKeys-turns, IsWellRead-refers, RefersWell-table, ascend-both, keys_named, values_below}
 use Rattle.plist_canon.proofs.references.judge_pairs.Goals as goal

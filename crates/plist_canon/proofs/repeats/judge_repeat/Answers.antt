@@ -2,7 +2,7 @@ use Rattle.std.proofs.Common.{sym, ◌∙◌}
 use Rattle.plist_object.specs.Views.{octets_of}
 use Rattle.plist_canon.specs.Rules.{breaks_c6}
 use Rattle.plist_write.specs.RepeatFilter.{MayRepeat}
-use Rattle.plist_object.proofs.KeysInTurn.{refuted}
+use Rattle.plist_keys.proofs.KeysInTurn.{refuted}
 use Rattle.plist_canon.proofs.Meeting.{seen-had, HasSeen-scalar, HasSeen-past, IsNoRepeat-apart, IsNoRepeat-new, not-IsNoRepeat}
 use Rattle.plist_canon.proofs.repeats.judge_repeat.Goals as goal
 

@@ -4,7 +4,7 @@ use Rattle.plist_object.specs.Views.{octets_of}
 use Rattle.plist_canon.specs.Rules.{IsNoRepeat}
 use Rattle.plist_write.specs.RepeatFilter.{HasAdded}
 use Rattle.plist_canon.specs.Seen.{HasSeen}
-use Rattle.plist_object.proofs.KeysInTurn.{below_or_last}
+use Rattle.plist_keys.proofs.KeysInTurn.{below_or_last}
 use Rattle.plist_canon.proofs.repeats.judge_repeats.Goals as goal
 
 pub loop-i-init : goal.loop-i-init

@@ -1,5 +1,5 @@
 use Rattle.std.proofs.Common.{ℕ, ◌+◌, ◌*◌, ◌≤◌, List, ◌++◌, length, drop}
-use Rattle.plist_object.specs.KeyOrder.{IsReady}
+use Rattle.plist_keys.specs.KeyOrder.{IsReady}
 use Rattle.plist_object.specs.Views.{octets_of}
 use Rattle.plist_write.specs.declared.plan.Plan.{Plan}
 use Rattle.plist_write.specs.Plan.{ItemsWalked, KnowsScalars}

@@ -1,8 +1,8 @@
 use Rattle.std.proofs.Common.{rules, ◌-◌, refl}
 use Rattle.std.specs.List.{IsDistinct}
 use Rattle.plist_object.specs.Views.{numbers_of, octets_of}
-use Rattle.plist_object.specs.Order.{strings_at}
-use Rattle.plist_object.proofs.Ascents.{same_key}
+use Rattle.plist_keys.specs.Order.{strings_at}
+use Rattle.plist_keys.proofs.Ascents.{same_key}
 use Rattle.plist_binary.specs.Paths.{containers_of}
 use Rattle.plist_binary.specs.Recalls.{RefusesTable}
 use Rattle.plist_binary.proofs.Beginning.{IsEntered-leads}

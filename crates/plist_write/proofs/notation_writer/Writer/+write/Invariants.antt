@@ -2,7 +2,7 @@ use Rattle.std.proofs.Common.{◌≡◌, ℕ, ◌+◌, ◌-◌, ◌*◌, List, t
 use Rattle.std.specs.List.{concat}
 use Rattle.plist_value.specs.Plist.{Items, Pairs, AreItems, ArePairs}
 use Rattle.plist_value.specs.declared.TheConstants.{MAX_DEPTH}
-use Rattle.plist_object.specs.KeyOrder.{IsReady}
+use Rattle.plist_keys.specs.KeyOrder.{IsReady}
 use Rattle.plist_object.specs.Spelled.{SpellItems, SpellPairs}
 use Rattle.plist_object.specs.Views.{octets_of, numbers_of}
 use Rattle.plist_write.specs.BufferedSink.{Emits, sink_state}

@@ -1,5 +1,0 @@
-use Rattle.std.proofs.Common.{rules}
-use Rattle.plist_object.proofs.keys.Keys.none.Goals as goal
-
-pub returns : goal.returns
-returns c = search rules

@@ -1,6 +1,0 @@
-use Rattle.plist_object.specs.Views.{octets_of}
-use Rattle.plist_object.specs.Ranks.{AreKeys}
-use Rattle.plist_object.proofs.keys.Keys.of_tables.Given as goal
-
-abbrev pub invariant-loop-i : goal.invariant-loop-i
-invariant-loop-i l = AreKeys (octets_of l.file) l.keys

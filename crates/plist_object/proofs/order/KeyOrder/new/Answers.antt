@@ -1,4 +1,0 @@
-use Rattle.plist_object.proofs.order.KeyOrder.new.Goals as goal
-
-pub returns : goal.returns
-returns c f = record { last = c.none.ensures f; longest = c.none-2.ensures f; ascending = tt; ranks = c.none-3.ensures f }

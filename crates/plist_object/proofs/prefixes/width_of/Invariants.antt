@@ -1,9 +1,0 @@
-use Rattle.std.proofs.Common.{ℕ, ◌<◌, get_or, drop}
-use Rattle.plist_object.specs.declared.order.Row.{Row}
-use Rattle.plist_object.specs.KeyOrder.{row_units}
-use Rattle.plist_object.specs.Prefixes.{IsNarrow}
-use Rattle.plist_object.proofs.prefixes.width_of.Given as goal
-
-abbrev pub invariant-loop-row : goal.invariant-loop-row
-invariant-loop-row l =
-    (k : ℕ) (d : Row) → k < l.row-index → IsNarrow (drop l.front (row_units l.texts (get_or l.rows k d)))
