@@ -9,3 +9,4 @@ pub mod Rows
 pub mod BelowAscii
 pub mod HexDigits
 pub mod Behind
+pub mod Quoted

@@ -14,4 +14,5 @@ pub mod Laws
 pub mod Rows
 pub mod Refusals
 pub mod Digits
+pub mod Escapes
 pub mod Writable
