@@ -1,9 +1,3 @@
-pub use Rattle.plist_value.specs.Plist
-pub use Rattle.plist_value.specs.Texts
-pub use Rattle.plist_object.specs.Layout
-pub use Rattle.plist_object.specs.Objects
-pub use Rattle.plist_object.specs.Places
-pub use Rattle.plist_object.specs.Views
 pub mod Ranks
 pub mod Order
 pub mod Ascending

@@ -61,7 +61,7 @@ fn sort_run(rows: &mut [Row], texts: &[TextRef], start: u32)
     ensures long { length rows.new ≡ length rows.old }
 {
     let front = shared(&*rows, texts);
-    let width = width_of(&*rows, texts, front);
+    let width = prefix_width(&*rows, texts, front);
     fill(&mut *rows, texts, start, front, width);
     rows.sort_unstable_by_key(|row| row.prefix);
 }
@@ -84,7 +84,7 @@ fn shared(rows: &[Row], texts: &[TextRef]) -> usize
 
 // Returns the width of the sort prefixes of a run: 8 bits if the next eight units of all strings
 // fit, and else 16, so that strings in most scripts do not all have the same prefix.
-fn width_of(rows: &[Row], texts: &[TextRef], front: usize) -> Width
+fn prefix_width(rows: &[Row], texts: &[TextRef], front: usize) -> Width
     ensures { result ≡ Width.Bits8
         ↔ All (λ row. IsNarrow (drop front (row_units texts.now row))) rows.now }
 {

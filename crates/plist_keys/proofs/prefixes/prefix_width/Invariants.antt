@@ -2,7 +2,7 @@ use Rattle.std.proofs.Common.{ℕ, ◌<◌, get_or, drop}
 use Rattle.plist_keys.specs.declared.order.Row.{Row}
 use Rattle.plist_keys.specs.KeyOrder.{row_units}
 use Rattle.plist_keys.specs.Prefixes.{IsNarrow}
-use Rattle.plist_keys.proofs.prefixes.width_of.Given as goal
+use Rattle.plist_keys.proofs.prefixes.prefix_width.Given as goal
 
 abbrev pub invariant-loop-row : goal.invariant-loop-row
 invariant-loop-row l =

@@ -3,7 +3,7 @@ use Rattle.plist_value.specs.Texts.{units_of}
 use Rattle.plist_keys.specs.Prefixes.{IsNarrow}
 use Rattle.plist_keys.proofs.KeysInTurn.{refuted}
 use Rattle.plist_keys.proofs.Widths.{narrow_more}
-use Rattle.plist_keys.proofs.prefixes.width_of.Goals as goal
+use Rattle.plist_keys.proofs.prefixes.prefix_width.Goals as goal
 
 pub returns-then-not-is_narrow : goal.returns-then-not-is_narrow
 returns-then-not-is_narrow c =
