@@ -133,7 +133,7 @@ pub fn put_table(
     Ok(())
 }
 
-/// Like [`put_list`], for references of 32 bits.
+/// Like [`put_list`], for references of 32 bits, which take half the memory.
 pub fn put_short_list(out: &mut Vec<u8>, width: u8, refs: &[u32]) -> Result<(), AllocError>
     requires width { IsWidth width }
     requires count { length refs.now < 2 ^ 32 }
@@ -146,7 +146,7 @@ pub fn put_short_list(out: &mut Vec<u8>, width: u8, refs: &[u32]) -> Result<(), 
     Ok(())
 }
 
-/// Like [`put_table`], for references of 32 bits.
+/// Like [`put_table`], for references of 32 bits, which take half the memory.
 pub fn put_short_table(
     out: &mut Vec<u8>,
     width: u8,
