@@ -1,6 +1,6 @@
 -- The trailer as the code reads it, as the definitions have it.
 use Rattle.plist_object.specs.Layout.{Trailer}
-use Rattle.plist_object.specs.declared.layout.Trailer as read
+use Rattle.plist_object.specs.declared.trailer.Trailer as read
 
 abbrev pub trailer_in : read.Trailer → Trailer
 trailer_in x = record {

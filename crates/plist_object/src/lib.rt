@@ -2,6 +2,8 @@
 //! canonical encoding.
 #![tactic(auto)]
 
+mod counted;
+mod finding;
 pub mod laws;
 pub mod layout;
 pub mod lengths;
@@ -12,9 +14,11 @@ mod reading;
 pub mod refs;
 mod reserved;
 pub mod shortest;
+mod trailer;
 mod units;
 
-pub use layout::{BinFile, LayoutFault, Spanned};
+pub use finding::Spanned;
+pub use layout::{BinFile, LayoutFault};
 pub use lengths::{list_length, scalar_length, table_length, to_u32, width_of};
 pub use markers::HEADER;
 pub use object::{Object, ObjectFault};

@@ -1,5 +1,5 @@
 use Rattle.std.proofs.Common.{sym}
-use Rattle.plist_object.proofs.layout.Trailer.size.Goals as goal
+use Rattle.plist_object.proofs.trailer.Trailer.size.Goals as goal
 
 pub returns : goal.returns
 returns c =

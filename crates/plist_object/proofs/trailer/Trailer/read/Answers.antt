@@ -1,5 +1,5 @@
 use Rattle.std.proofs.Common.{rules}
-use Rattle.plist_object.proofs.layout.Trailer.read.Goals as goal
+use Rattle.plist_object.proofs.trailer.Trailer.read.Goals as goal
 
 pub returns : goal.returns
 returns c = search rules

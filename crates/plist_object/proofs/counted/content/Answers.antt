@@ -2,7 +2,7 @@ use Rattle.std.proofs.Common.{◌≡◌, ◌<◌, ◌+◌, ◌*◌, suc, length,
 use Rattle.std.proofs.lemmas.Bool.{cases_lt, le-ltb}
 use Rattle.std.proofs.lemmas.Nat.{le-div}
 use Rattle.plist_object.specs.Objects.{content, count_of_content, count_spelled}
-use Rattle.plist_object.proofs.reading.content.Goals as goal
+use Rattle.plist_object.proofs.counted.content.Goals as goal
 
 -- the count exceeds the remaining bytes
 pub returns-then-count-octets-clause-read : goal.returns-then-count-octets-clause-read
