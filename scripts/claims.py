@@ -18,7 +18,7 @@ import sys
 from dataclasses import dataclass
 from pathlib import Path
 
-TESTS = {"plist_tests", "program_tests", "test_files", "rows"}
+TESTS = {"plist_tests", "program_tests", "test_files", "rows"}  # crates of tests
 SPAN = re.compile(r"`([^`\n]+)`( \(private\))?")
 NAMED = re.compile(r"((?:\w+::)*)(\{[\w, ]+\}|\w+)(?:: (\w+(?:, \w+)*)| as (\w+))?")
 FUNCTION = re.compile(
@@ -29,6 +29,12 @@ OWNER = re.compile(
     r"|trait (?P<name>\w+))"
 )
 CLAUSE = re.compile(r" *(?:(?P<comment>//)|(?P<word>requires|ensures)\*?(?: (?P<name>\w+))? \{)")
+
+
+def declared(top: Path) -> dict[str, list[str]]:
+    """Returns the crates of a tree, with the crates that each uses."""
+    lines = (top / "crates.txt").read_text(encoding="utf-8").splitlines()
+    return {line.split()[0].rstrip(":"): line.partition(":")[2].split() for line in lines}
 
 
 class Fault(Exception):
@@ -94,9 +100,8 @@ def items(crate: str, path: Path, src: Path) -> list[Item]:
             owner, trait = match["type"] or match["name"], (match["trait"] or "").split("::")[-1]
             is_open = bool(trait or match["name"] and match["visible"])
             if trait:
-                ends = (
-                    n for n in range(at + 1, len(lines)) if re.match(r"    .*\bfn |\}", lines[n])
-                )
+                rest = range(at + 1, len(lines))
+                ends = (n for n in rest if re.match(r"    .*\bfn |\}", lines[n]))
                 ghosts = lines[at : next(ends, at + 1)]
                 found.append(Item(crate, modules, owner, trait, True, place, ghosts))
         elif line.startswith("}"):
@@ -112,8 +117,7 @@ class Tree:
     """What the crates have, but those of tests."""
 
     def __init__(self, top: Path) -> None:
-        lines = (top / "crates.txt").read_text(encoding="utf-8").splitlines()
-        uses = {line.split()[0].rstrip(":"): line.partition(":")[2].split() for line in lines}
+        uses = declared(top)
         crates = [crate for crate in uses if crate not in TESTS]
         files = [
             (crate, path, top / "crates" / crate / "src")
@@ -209,9 +213,8 @@ def main(arguments: list[str], top: Path = Path(__file__).resolve().parent.paren
         printed, wrong = [], [str(fault)]
     if arguments == ["--print"]:
         print("\n".join(printed[1:]))
-    print(
-        "\n".join([*wrong, f"claims: {len(wrong)} faults"]), file=sys.stderr if arguments else None
-    )
+    said = "\n".join([*wrong, f"claims: {len(wrong)} faults"])
+    print(said, file=sys.stderr if arguments else None)
     return 1 if wrong else 0
 
 

@@ -30,10 +30,11 @@ import re
 import sys
 from pathlib import Path
 
+from claims import TESTS, declared
+
 TOP = Path(__file__).resolve().parent.parent
 CRATES = TOP / "crates"
 PAGES = sorted([*TOP.glob("*.md"), *TOP.glob("docs/*.md"), *TOP.glob("bindings/**/*.md")])
-TESTS = {"plist_tests", "program_tests", "test_files", "rows"}  # crates that the layers leave out
 SPAN = re.compile(r"`([^`\n]+)`")
 LINK = re.compile(r"\]\(([^)#:]*)(?:#([\w-]+))?\)")
 PATH = re.compile(r"[\w.-]+(/[\w.-]*)+")
@@ -41,17 +42,7 @@ STAND_IN = re.compile(r"\b[A-Z]{2,}\b(?!\.)")
 NAMED = re.compile(r"((?:\w+::)*)(\{[\w, ]+\}|\w+)(?:: (\w+(?:, \w+)*))?")
 
 
-def declared():
-    """Returns the crates, with the crates that each uses."""
-    crates = {}
-    for line in (TOP / "crates.txt").read_text(encoding="utf-8").splitlines():
-        name, _, uses = line.partition("#")[0].partition(":")
-        if name.strip():
-            crates[name.split()[0]] = uses.split()
-    return crates
-
-
-USES = declared()
+USES = declared(TOP)
 
 
 class Sources:
@@ -60,9 +51,8 @@ class Sources:
     def __init__(self, crates):
         files = [file for crate in crates for file in (CRATES / crate / "src").rglob("*.rt")]
         self.text = "\n".join(file.read_text(encoding="utf-8") for file in files)
-        self.words = set(re.findall(r"\w+", re.sub(r"//.*", "", self.text))) | {
-            file.stem for file in files
-        }
+        self.words = set(re.findall(r"\w+", re.sub(r"//.*", "", self.text)))
+        self.words.update(file.stem for file in files)
         self.clauses = set(re.findall(r"ensures (\w+) \{", self.text))
 
 
@@ -81,9 +71,8 @@ ANTT = {file.name for file in CRATES.rglob("*.antt") if "out" not in file.parts}
 
 def stands(path, page):
     """Returns whether the file or folder exists."""
-    return any((base / path).exists() for base in (TOP, CRATES, page.parent)) or any(
-        (CRATES / crate / path).exists() for crate in USES
-    )
+    bases = TOP, CRATES, page.parent, *(CRATES / crate for crate in USES)
+    return any((base / path).exists() for base in bases)
 
 
 def wrong_name(span, is_exact):
@@ -101,9 +90,7 @@ def wrong_name(span, is_exact):
         return None
     source = source or ALL
     missing = [name for name in names if name not in source.words]
-    missing += [
-        clause for clause in re.findall(r"\w+", clauses or "") if clause not in source.clauses
-    ]
+    missing += [it for it in re.findall(r"\w+", clauses or "") if it not in source.clauses]
     return missing[0] if missing else None
 
 
@@ -115,11 +102,9 @@ def stale(span, page):
         return None if match[1] in TARGETS else f"no target {match[1]}"
     if PATH.fullmatch(span):
         first = span.split("/")[0]
-        if first != ".git" and (
-            first in USES or first in ("specs", "proofs", "src") or (TOP / first).exists()
-        ):
-            return None if stands(span, page) else f"no file {span}"
-        return None
+        is_ours = first in (*USES, "specs", "proofs", "src") or (TOP / first).exists()
+        is_stale = first != ".git" and is_ours and not stands(span, page)
+        return f"no file {span}" if is_stale else None
     if span.endswith(".antt"):
         return None if span in ANTT else f"no file {span}"
     if re.fullmatch(r"(plist|ostep)_\w+", span):
@@ -154,9 +139,8 @@ def read(name):
 
 def blocks(text):
     """Returns the blocks of lines indented by four spaces."""
-    return [
-        re.findall(r"(?m)^    (.*)", block) for block in re.findall(r"(?m)(?:^    .*\n)+", text)
-    ]
+    found = re.findall(r"(?m)(?:^    .*\n)+", text)
+    return [re.findall(r"(?m)^    (.*)", block) for block in found]
 
 
 def layer_faults(text):
@@ -187,27 +171,23 @@ def number_faults():
         cells = [cell.strip() for cell in line.strip("|").split("|")]
         if re.match(r"\d", cells[0]):
             ends = re.fullmatch(r"(\d+) to (\d+)", cells[0])
-            numbers = (
-                range(int(ends[1]), int(ends[2]) + 1) if ends else map(int, cells[0].split(", "))
-            )
+            listed = map(int, cells[0].split(", "))
+            numbers = range(int(ends[1]), int(ends[2]) + 1) if ends else listed
             table.update(zip(numbers, cells[1].split(", ")))
-    code = re.findall(
-        r"(?m)^number_of (\w+) = (\d+)$", read("crates/plist_value/specs/Refusals.antt")
-    )
+    specs = read("crates/plist_value/specs/Refusals.antt")
+    code = re.findall(r"(?m)^number_of (\w+) = (\d+)$", specs)
     if table != {int(number): name for name, number in code}:
         yield "FORMATS.md: its refusals are not those of plist_value/specs/Refusals.antt"
     texts = "".join(read(f"crates/plist_explain/src/{file}.rt") for file in ("refusals", "rules"))
     explained = re.findall(r"Subject::(?:Refusal\(Refusal::|Rule\()(\w+)", texts)
-    if explained != [table[number] for number in sorted(table)] + re.findall(
-        r"(?m)^C(\d) \|", formats
-    ):
+    rules = re.findall(r"(?m)^C(\d) \|", formats)
+    if explained != [table[number] for number in sorted(table)] + rules:
         yield "FORMATS.md: its refusals and rules are not those of plist_explain"
     plain = re.sub(r"\\(.)", r"\1", texts)
     if long := [line for line in re.findall(r'(?m)^[^ /].*?(?=",$|$)', plain) if len(line) > 79]:
         yield f"plist_explain: a line is too long: {long[0]}"
-    constants = "".join(
-        read(f"crates/{file}.rt") for file in ("plist_value/src/lib", "plist_forms/src/loading")
-    )
+    files = "plist_value/src/lib.rt", "plist_forms/src/loading.rt"
+    constants = "".join(read(f"crates/{file}") for file in files)
     for name, number in re.findall(r"pub const (MAX_\w+): u64 = ([\d_]+);", constants):
         for page in ("docs/FORMATS.md", "SECURITY.md"):
             if number.replace("_", ",") not in read(page):
@@ -239,11 +219,9 @@ def cost_faults():
         file: re.findall(r"(\d+) processor minutes", read(file))[:1]
         for file in ("CONTRIBUTING.md", "Makefile", "build.mk")
     }
-    yield from (
-        f"{file}: its cost of the first make is not that of CONTRIBUTING.md"
-        for file in costs
-        if not costs[file] or costs[file] != costs["CONTRIBUTING.md"]
-    )
+    for file, cost in costs.items():
+        if not cost or cost != costs["CONTRIBUTING.md"]:
+            yield f"{file}: its cost of the first make is not that of CONTRIBUTING.md"
 
 
 def tool_faults():
@@ -253,11 +231,9 @@ def tool_faults():
         "plistconv-tools.1": read("man/plistconv-tools.1").replace("\\-", "-"),
     }
     for tool in sorted(TOP.glob("tools/plistconv-*")):
-        yield from (
-            f"{name}: no command {tool.name}"
-            for name, page in pages.items()
-            if tool.name not in page
-        )
+        for name, page in pages.items():
+            if tool.name not in page:
+                yield f"{name}: no command {tool.name}"
 
 
 def main():

@@ -21,9 +21,10 @@ import sys
 from collections import Counter
 from pathlib import Path
 
+from claims import TESTS
+
 TOP = Path(__file__).resolve().parent.parent
 LIST = "scripts/out_of_memory.txt"
-TESTS = {"plist_tests", "program_tests", "rows", "test_files"}
 NAMES = re.compile(
     r"\b(?:OutOfMemory|NoMemory|AllocError|AllocFailed|(?<!fn )(?:report_no_memory|to_u32))\b"
     r"|\bneeds_memory\b(?!: bool)|\b(?:60|0x3[cC])(?:_?u8)?\b(?!\s*(?:\||=>))"

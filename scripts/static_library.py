@@ -39,19 +39,16 @@ def main():
     rtlib.guarded()
     crate = rtlib.Crate(folder, TOP, {})
     held = rtlib.lock([*crate.below(), crate])
-    if any(
-        os.path.isfile(os.path.join(lower.folder, "out", "rlib", "stamp"))
-        for lower in crate.below()
-    ):
+    stamps = (os.path.join(lower.folder, "out", "rlib", "stamp") for lower in crate.below())
+    if any(map(os.path.isfile, stamps)):
         for lower in crate.below():
             status = lower.build_rlib([], anew=False)
             if status:
                 return status
     missing = [lower.name for lower in crate.below() if not os.path.isdir(lower.rlib)]
     if missing:
-        sys.exit(
-            f"static_library: no library of {', '.join(missing)}: `rt ci` leaves them where it proves them"
-        )
+        names = ", ".join(missing)
+        sys.exit(f"static_library: no library of {names}: `rt ci` leaves them where it proves them")
     os.makedirs("out", exist_ok=True)
     status = crate.compile([], archive)
     if status < 0:  # killed, most likely because it ran out of memory
