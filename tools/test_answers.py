@@ -34,17 +34,17 @@ FAULTY = (
     "echo '-: refused'; exit 2",
 )
 # The commands, and what they ask of the program.
-ASKING: tuple[tuple[str, list[str], str], ...] = (
-    ("canonicalise", ["a", "other"], ""),
-    ("canonicalise", ["a", "other"], "print"),
-    ("canonicalise", ["-o", "old", "a"], ""),
-    ("canonicalise", ["-o", "new", "a"], ""),
-    ("canonicalise", ["-"], ""),
-    ("digest", ["--all-lines", "a", "other"], ""),
-    ("diff", ["a", "other"], "same"),
-    ("diff", ["a", "other"], "print"),
-    ("textconv", ["a"], "print"),
-    ("staged", [], ""),
+ASKING = (
+    ("canonicalise a other", ""),
+    ("canonicalise a other", "print"),
+    ("canonicalise -o old a", ""),
+    ("canonicalise -o new a", ""),
+    ("canonicalise -", ""),
+    ("digest --all-lines a other", ""),
+    ("diff a other", "same"),
+    ("diff a other", "print"),
+    ("textconv a", "print"),
+    ("staged", ""),
 )
 PRINTED = (
     b'{}|{\n  "a" => {\n  }\n}|[]|[\n  1\n]|<>|<00>|<\n  0a0b\n>|"a \\" b"|""|true|false|0|-5|3.25'
@@ -62,23 +62,22 @@ class Answers(Case):
 
     def setUp(self):
         super().setUp()
-        self.git("init", "-q")
+        self.git("init -q")
         self.files = {"a": TEXT, "other": OTHER, "old": b"old", "a.plist": TEXT}
-        for name, octets in self.files.items():
-            self.put(name, octets)
-        self.git("add", "a.plist")
+        self.put_all(self.files)
+        self.git("add a.plist")
 
     def test_what_is_no_answer_is_status_2_and_changes_nothing(self):
         for faulty in FAULTY:
-            for tool, words, asked in ASKING:
+            for command, asked in ASKING:
                 script = f'if [ "$1" = "{asked}" ]; then {faulty}; exit; fi\nexec "$PROGRAM" "$@"'
                 env = self.program(script)
-                with self.subTest(script=script, tool=tool, words=words):
-                    run = self.tool(tool, *words, status=2, env=env, input=TEXT)
+                with self.subTest(script=script, command=command):
+                    run = self.tool(command, status=2, env=env, input=TEXT)
                     self.assertRegex(run.stderr, b"ended with status [0-9-]+, without an answer\n")
                     self.assertEqual(run.stdout, b"")
         for name, octets in self.files.items():
-            self.assertEqual((self.folder / name).read_bytes(), octets)
+            self.assertEqual(self.content(name), octets)
         self.assertFalse((self.folder / "new").exists())
         self.assertFalse([name for name in self.left() if name.startswith(".plistconv-")])
 
@@ -108,13 +107,8 @@ class Answers(Case):
             for other in range(6):
                 if other != status:
                     self.assertEqual(self.judged(asked, other, output), "trouble", (asked, other))
-            for wrong in (
-                b"",
-                output[:-1],
-                output[: len(output) // 2],
-                output + b"\n",
-                b"hello\n" + output,
-            ):
+            parts = output[:-1], output[: len(output) // 2]
+            for wrong in (b"", *parts, output + b"\n", b"hello\n" + output):
                 self.assertEqual(self.judged(asked, status, wrong), "trouble", (asked, wrong))
             for code, line in (
                 (2, refused),
@@ -129,13 +123,9 @@ class Answers(Case):
 
     def test_what_is_refused_is_no_trouble(self):
         self.put("a", b"{a;a=b;}")
-        for tool, words, status in (
-            ("canonicalise", ["a"], 1),
-            ("digest", ["a"], 1),
-            ("diff", ["a", "other"], 2),
-            ("diff", ["other", "a"], 2),
-        ):
-            self.refuses("a: refused 14 DuplicateKey at octet 3", tool, *words, status=status)
+        commands = {"canonicalise a": 1, "digest a": 1, "diff a other": 2, "diff other a": 2}
+        for command, status in commands.items():
+            self.refuses("a: refused 14 DuplicateKey at octet 3", command, status=status)
 
 
 if __name__ == "__main__":

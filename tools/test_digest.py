@@ -16,22 +16,12 @@ class Digest(Case):
     """Digests as sha256sum prints them."""
 
     def test_equal_values_have_one_digest_as_sha256sum_prints_it(self):
-        names = [
-            self.put(name, octets).name
-            for name, octets in (
-                ("a", TEXT),
-                ("b c", SAME),
-                ("n\nl", TEXT),
-                ("back\\slash", TEXT),
-                ("r\rt", TEXT),
-                ("é", SAME),
-            )
-        ]
+        names = "a", "b c", "n\nl", "back\\slash", "r\rt", "é"
+        self.put_all({**dict.fromkeys(names, TEXT), "b c": SAME, "é": SAME})
         printed = self.tool("digest", *names).stdout
         if shutil.which("sha256sum") is None:
             self.skipTest("skipped: there is no sha256sum")
-        for name in names:
-            self.put(name, self.canonical(TEXT))
+        self.put_all(dict.fromkeys(names, self.canonical(TEXT)))
         wanted = self.call(["sha256sum", *names]).stdout
         if b"\r" in wanted:  # Older versions do not escape it.
             wanted, printed = (
@@ -41,59 +31,34 @@ class Digest(Case):
 
     def test_what_is_refused_has_no_digest_and_the_others_have(self):
         self.put("a", TEXT)
-        for name, octets, why in (
-            ("twice", TWICE, "refused 14 DuplicateKey at octet 3"),
-            ("xml", XML, "refused 21"),
-            ("archive", ARCHIVE, "refused 9 UidObject at object 2"),
-        ):
-            self.put(name, octets)
-            digest = self.tool("digest", "a").stdout
-            self.refuses(
-                f"plistconv-digest: {name}: {why}", "digest", name, "none", "a", printed=digest
-            )
-
-    def test_all_lines_tell_files_that_are_refused_apart(self):
-        self.put("a", TEXT)
-        digest = self.tool("digest", "a").stdout
+        digest = self.tool("digest a").stdout
         for octets, why in (
             (TWICE, "refused 14 DuplicateKey at octet 3"),
             (XML, "refused 21 XmlForm at octet 0 (XML)"),
             (XML + b" ", "refused 21 XmlForm at octet 0 (XML)"),
+            (ARCHIVE, "refused 9 UidObject at object 2"),
         ):
             self.put("b\\", octets)
+            said = f"plistconv-digest: b\\: {why}"
+            self.refuses(said, "digest b\\ none a", printed=digest)
+            # With --all-lines files that are refused differ.
             line = f"\\{why}; bytes {hashlib.sha256(octets).hexdigest()}  b\\\\\n".encode()
-            self.refuses(
-                f"plistconv-digest: b\\: {why}",
-                "digest",
-                "--all-lines",
-                "b\\",
-                "a",
-                printed=line + digest,
-            )
-        self.refuses(
-            "none: No such file",
-            "digest",
-            "--all-lines",
-            "none",
-            printed=b"No such file or directory  none\n",
-        )
+            self.refuses(said, "digest --all-lines b\\ a", printed=line + digest)
+        line = b"No such file or directory  none\n"
+        self.refuses("none: No such file", "digest --all-lines none", printed=line)
 
     def test_digest_of_xml_is_that_of_its_binary_file(self):
         self.put("x", XML)
-        made = self.tool("canonicalise", "--from-xml", "-", input=XML).stdout
+        made = self.tool("canonicalise --from-xml -", input=XML).stdout
         digest = hashlib.sha256(made).hexdigest().encode()
-        self.prints(digest + b"  x\n", "digest", "--from-xml", "x")
-        self.prints(digest + b"  -\n", "digest", "--from-xml", "-", input=made)
-        self.refuses(
-            "x: refused as XML",
-            "digest",
-            "--from-xml",
-            "x",
-            input=self.put("x", XML[:-9]).read_bytes(),
-        )
+        self.prints(digest + b"  x\n", "digest --from-xml x")
+        self.prints(digest + b"  -\n", "digest --from-xml -", input=made)
+        self.put("x", XML[:-9])
+        self.refuses("x: refused as XML", "digest --from-xml x")
 
     def test_xml_is_refused_with_the_way_out_in_every_encoding(self):
         latin = XML.replace(b'"1.0"?', b'"1.0" encoding="ISO-8859-1"?').replace(b">a<", b">\xe9<")
+        convert = "plistconv-canonicalise --from-xml FILE; plistutil -i IN -f bin -o OUT"
         for octets in (
             XML,
             latin,
@@ -104,25 +69,20 @@ class Digest(Case):
             b"\xef\xbb\xbf" + XML,
         ):
             self.put("x", octets)
-            self.refuses("(XML)", "digest", "x")
-            self.refuses(
-                "one of: plistconv-canonicalise --from-xml FILE; plistutil -i IN -f bin -o OUT; on macOS plutil",
-                "digest",
-                "x",
-            )
+            self.refuses("(XML)", "digest x")
+            self.refuses(f"one of: {convert}; on macOS plutil", "digest x")
 
-    def test_pipes_and_standard_input(self):
+    def test_standard_input(self):
         digest = hashlib.sha256(self.canonical(TEXT)).hexdigest().encode()
-        self.prints(digest + b"  -\n", "digest", "-", input=TEXT)
-        self.prints(digest + b"  /dev/stdin\n", "digest", "/dev/stdin", input=TEXT)
+        self.prints(digest + b"  -\n", "digest -", input=TEXT)
+        self.prints(digest + b"  /dev/stdin\n", "digest /dev/stdin", input=TEXT)
 
     def lines(self, *names) -> bytes:
         """Returns the lines of these files, from a program for each alone."""
         return b"".join(self.tool("digest", name).stdout for name in names)
 
     def test_programs_run_at_the_same_time_and_lines_are_in_order(self):
-        self.put("first", b"{first;}")
-        self.put("second", b"{second;}")
+        self.put_all({"first": b"{first;}", "second": b"{second;}"})
         wanted = self.lines("first", "second")
         os.mkfifo(str(self.folder / "fifo"))
         # The program for the first file waits until that for the second one has ended.
@@ -131,46 +91,34 @@ class Digest(Case):
             'if grep -q first "$0.$$"; then timeout 60 cat fifo || exit 3; else exec 9> fifo; fi\n'
             'exec "$PROGRAM" "$@" < "$0.$$"'
         )
+        two, names = "os.cpu_count = lambda: 2", ("first", "second")
         with (self.folder / "printed").open("wb") as printed:
-            self.patched(
-                "os.cpu_count = lambda: 2",
-                "first",
-                "second",
-                tool="digest",
-                env=env,
-                stdout=printed,
-            )
-        self.assertEqual((self.folder / "printed").read_bytes(), wanted)
+            self.patched(two, *names, tool="digest", env=env, stdout=printed)
+        self.assertEqual(self.content("printed"), wanted)
 
     def test_many_files_have_their_lines_and_messages_in_order(self):
-        names = [str(number) for number in range(50)]
-        for name in names:
-            self.put(name, TWICE if name.endswith("3") else f"(a{name},b)".encode())
-        digests = [
-            (name, hashlib.sha256(self.canonical((self.folder / name).read_bytes())).hexdigest())
-            for name in names
-            if not name.endswith("3")
-        ]
-        run = self.tool("digest", *names, status=1)
-        self.assertEqual(run.stdout.decode(), "".join(f"{sum}  {name}\n" for name, sum in digests))
-        self.assertEqual(
-            re.findall(rb"(?m)^plistconv-digest: (\d+): refused", run.stderr),
-            [b"3", b"13", b"23", b"33", b"43"],
-        )
+        wrong = [b"3", b"13", b"23", b"33", b"43"]
+        lines = []
+        for name in map(str, range(50)):
+            octets = TWICE if name.encode() in wrong else f"(a{name},b)".encode()
+            self.put(name, octets)
+            if octets != TWICE:
+                lines.append(f"{hashlib.sha256(self.canonical(octets)).hexdigest()}  {name}\n")
+        run = self.tool("digest", *map(str, range(50)), status=1)
+        self.assertEqual(run.stdout.decode(), "".join(lines))
+        named = re.findall(rb"(?m)^plistconv-digest: (\d+): refused", run.stderr)
+        self.assertEqual(named, wrong)
 
     def test_trouble_ends_the_run_after_the_lines_before_it(self):
         names = [str(number) for number in range(20)]
-        for name in names:
-            self.put(name, f"(a{name},b)".encode())
+        self.put_all({name: f"(a{name},b)".encode() for name in names})
         wanted = self.lines("0", "1", "2")
-        env = self.program(
-            'cat > "$0.$$"\ngrep -q a3 "$0.$$" && exit 3\nexec "$PROGRAM" "$@" < "$0.$$"'
-        )
+        fails = 'grep -q a3 "$0.$$" && exit 3'
+        env = self.program(f'cat > "$0.$$"\n{fails}\nexec "$PROGRAM" "$@" < "$0.$$"')
         self.refuses("ended with status 3", "digest", *names, status=2, env=env, printed=wanted)
 
     def test_lines_of_the_page_name_a_folder_that_is_not_there(self):
-        bash = shutil.which("bash")
-        if bash is None:
+        if shutil.which("bash") is None:
             self.skipTest("skipped: there is no bash")
         page = (TOP / "docs" / "RECIPES.md").read_text(encoding="utf-8")
         lines = "\n".join(re.search(r"(?m)^    (digests\(\) .*)\n    (diff .*)$", page).groups())
@@ -181,7 +129,7 @@ class Digest(Case):
         ):
             for folder in folders:
                 (self.folder / folder).mkdir(exist_ok=True)
-            run = self.call([bash, "-c", lines], 1 if said else 0)
+            run = self.call(["bash", "-c", lines], 1 if said else 0)
             self.assertEqual(run.stdout, said)
             self.assertEqual(bool(run.stderr), bool(said))
 
@@ -190,34 +138,19 @@ class Diff(Case):
     """Unified diffs of prints."""
 
     def test_statuses_are_those_of_diff(self):
-        for name, octets in (
-            ("a", TEXT),
-            ("b", SAME),
-            ("c", OTHER),
-            ("twice", TWICE),
-            ("xml", XML),
-        ):
-            self.put(name, octets)
-        self.prints(b"", "diff", "a", "b")
-        self.prints(
-            b'--- a\n+++ c\n@@ -1,4 +1,4 @@\n {\n-  "a" => "b"\n+  "a" => "c"\n   "b" => "a"\n }\n',
-            "diff",
-            "a",
-            "c",
-            status=1,
-        )
-        self.refuses("twice: refused 14 DuplicateKey at octet 3", "diff", "a", "twice", status=2)
-        self.refuses("none: No such file", "diff", "none", "a", status=2)
+        self.put_all({"a": TEXT, "b": SAME, "c": OTHER, "twice": TWICE})
+        self.prints(b"", "diff a b")
+        lines = b'@@ -1,4 +1,4 @@\n {\n-  "a" => "b"\n+  "a" => "c"\n   "b" => "a"\n }\n'
+        self.prints(b"--- a\n+++ c\n" + lines, "diff a c", status=1)
+        self.refuses("twice: refused 14 DuplicateKey at octet 3", "diff a twice", status=2)
 
     def test_pipes_as_of_a_shell_and_standard_input(self):
-        bash = shutil.which("bash")
-        self.put("a", TEXT)
-        self.put("c", OTHER)
-        self.prints(b"", "diff", "-", "a", input=SAME)
-        if bash is None:
+        self.put_all({"a": TEXT, "c": OTHER})
+        self.prints(b"", "diff - a", input=SAME)
+        if shutil.which("bash") is None:
             self.skipTest("skipped: there is no bash")
         command = f"'{sys.executable}' '{TOOLS}/plistconv-diff' <(cat a) <(cat c)"
-        self.assertIn(b'+  "a" => "c"', self.call([bash, "-c", command], 1).stdout)
+        self.assertIn(b'+  "a" => "c"', self.call(["bash", "-c", command], 1).stdout)
 
     def applied(self, diff: bytes, old: list) -> list:
         """Returns the old lines after a unified diff is applied."""
@@ -243,10 +176,8 @@ class Diff(Case):
             (b"a,b," * 900, b"b,c," * 900),
         ]
         for _ in range(6):
-            old = [
-                b"%d,{a=%d;b=x;}," % (chance.randrange(9), chance.randrange(5000))
-                for _ in range(2000)
-            ]
+            pairs = ((chance.randrange(9), chance.randrange(5000)) for _ in range(2000))
+            old = [b"%d,{a=%d;b=x;}," % pair for pair in pairs]
             new = [line for line in old if chance.random() < 0.99]
             new[7:9] = chance.sample(old, chance.randrange(5))
             values.append((b"".join(old), b"".join(new)))
@@ -255,15 +186,13 @@ class Diff(Case):
             for name, items in (("old", old), ("new", new)):
                 self.put(name, b"(" + items + b")")
                 prints.append(self.call([PROGRAM, "print", name]).stdout.splitlines(keepends=True))
-            diff = self.tool("diff", "old", "new", status=1).stdout
+            diff = self.tool("diff old new", status=1).stdout
             self.assertEqual(self.applied(diff, prints[0]), prints[1])
 
     def test_xml_is_compared_through_plistlib(self):
-        self.put("x", XML)
-        self.put("text", b"{a=2.5;}")
-        self.assertIn(
-            b'-  "a" => 2.5\n+  "a" => "2.5"\n', self.tool("diff", "x", "text", status=1).stdout
-        )
+        self.put_all({"x": XML, "text": b"{a=2.5;}"})
+        printed = self.tool("diff x text", status=1).stdout
+        self.assertIn(b'-  "a" => 2.5\n+  "a" => "2.5"\n', printed)
 
 
 if __name__ == "__main__":

@@ -25,13 +25,9 @@ def acl(*entries) -> bytes:
     return struct.pack("<I", 2) + b"".join(struct.pack("<HHI", *entry) for entry in entries)
 
 
-OWNED_BY_OTHERS = acl(
-    (1, 6, 2**32 - 1),
-    (2, 4, OTHER_USER),
-    (4, 4, 2**32 - 1),
-    (16, 4, 2**32 - 1),
-    (32, 0, 2**32 - 1),
-)
+NO_ID = 2**32 - 1
+RIGHTS = (1, 6, NO_ID), (2, 4, OTHER_USER), (4, 4, NO_ID), (16, 4, NO_ID), (32, 0, NO_ID)
+OWNED_BY_OTHERS = acl(*RIGHTS)
 
 
 class Kept(Case):
@@ -49,11 +45,10 @@ class Kept(Case):
 
     def test_owner_and_group_are_kept_if_the_system_allows_it(self):
         path = self.owned("a", USER, OTHER_USER, 0o4750)
-        self.prints(b"", "canonicalise", "a")
+        self.prints(b"", "canonicalise a")
         after = path.stat()
-        self.assertEqual(
-            (after.st_uid, after.st_gid, stat.S_IMODE(after.st_mode)), (USER, OTHER_USER, 0o4750)
-        )
+        self.assertEqual((after.st_uid, after.st_gid), (USER, OTHER_USER))
+        self.assertEqual(stat.S_IMODE(after.st_mode), 0o4750)
 
     def test_file_whose_owner_or_group_cannot_be_kept_is_left_unless_forced(self):
         no_owner = (
@@ -67,10 +62,8 @@ class Kept(Case):
         ):
             path = self.owned("a", USER, OTHER_USER, 0o6755)
             before = path.stat().st_ino, path.stat().st_ctime_ns
-            said = self.patched(lines, "a", status=1)
-            self.assertIn(
-                f"a: its {lost} cannot be kept (--force replaces it); left as it is".encode(), said
-            )
+            why = f"a: its {lost} cannot be kept (--force replaces it); left as it is"
+            self.assertIn(why.encode(), self.patched(lines, "a", status=1))
             self.assertEqual((path.stat().st_ino, path.stat().st_ctime_ns), before)
             self.assertEqual((path.read_bytes(), self.left()), (TEXT, ["a"]))
             said = self.patched(lines, "--force", "a")
@@ -78,9 +71,8 @@ class Kept(Case):
                 self.assertIn(f"a: replaced without its {what}\n".encode(), said)
             after = path.stat()
             self.assertEqual((after.st_uid, after.st_gid), owners)
-            self.assertEqual(
-                (stat.S_IMODE(after.st_mode), path.read_bytes()), (0o755, self.canonical(TEXT))
-            )
+            self.assertEqual(stat.S_IMODE(after.st_mode), 0o755)
+            self.assertEqual(path.read_bytes(), self.canonical(TEXT))
         # The owner of a file system without owners is always the same.
         self.put("b", TEXT)
         self.assertEqual(self.patched(none, "b"), b"")
@@ -99,28 +91,25 @@ class Kept(Case):
     def test_extended_attributes_are_kept_or_named(self):
         path = self.put("a", TEXT)
         before = self.attributes(path, user_of_comment=b"\0one", user_of_empty=b"")
-        self.prints(b"", "canonicalise", "a")
+        self.prints(b"", "canonicalise a")
         self.assertEqual(self.attributes(path), before)
         path.write_bytes(TEXT)
-        said = self.patched(
-            "def fails(*_): raise PermissionError(1, 'no')\nos.setxattr = fails", "a"
-        )
+        fails = "def fails(*_): raise PermissionError(1, 'no')\nos.setxattr = fails"
+        said = self.patched(fails, "a").decode()
         for name in ("comment", "empty"):
-            self.assertIn(
-                f"a: replaced without its extended attribute user.{name}\n".encode(), said
-            )
+            self.assertIn(f"a: replaced without its extended attribute user.{name}\n", said)
         self.assertEqual((path.read_bytes(), self.attributes(path)), (self.canonical(TEXT), {}))
 
     def test_access_control_lists_are_kept_and_those_of_the_folder_not_taken(self):
         path = self.put("a", TEXT)
         self.attributes(path, system_of_posix_acl_access=OWNED_BY_OTHERS)
-        self.prints(b"", "canonicalise", "a")
+        self.prints(b"", "canonicalise a")
         self.assertEqual(self.attributes(path), {ACL: OWNED_BY_OTHERS})
         self.assertEqual(stat.S_IMODE(path.stat().st_mode), 0o640)
         path = self.put("b", TEXT)
         path.chmod(0o640)
         os.setxattr(str(self.folder), DEFAULT_ACL, OWNED_BY_OTHERS)
-        self.prints(b"", "canonicalise", "b")
+        self.prints(b"", "canonicalise b")
         self.assertEqual((self.attributes(path), stat.S_IMODE(path.stat().st_mode)), ({}, 0o640))
 
     def test_flags_of_chattr_that_are_lost_are_named(self):
@@ -134,17 +123,13 @@ class Kept(Case):
             "fcntl.ioctl = ioctl"
         )
         self.put("a", TEXT)
-        said = "".join(
-            f"plistconv-canonicalise: a: replaced without its flag {flag} of chattr\n"
-            for flag in "AS"
-        )
-        self.assertEqual(self.patched(ioctl, "a").decode(), said)
+        line = "plistconv-canonicalise: a: replaced without its flag {} of chattr\n"
+        self.assertEqual(self.patched(ioctl, "a").decode(), line.format("A") + line.format("S"))
         path = self.put("a", TEXT)
-        if shutil.which("chattr") is None or subprocess.call(
-            ["chattr", "+d", str(path)], stderr=subprocess.DEVNULL
-        ):
+        words = ["chattr", "+d", str(path)]
+        if shutil.which("chattr") is None or subprocess.call(words, stderr=subprocess.DEVNULL):
             self.skipTest("skipped: chattr sets no flag here")
-        self.refuses("a: replaced without its flag d of chattr\n", "canonicalise", "a", status=0)
+        self.refuses(line.format("d"), "canonicalise a", status=0)
         self.assertEqual(path.read_bytes(), self.canonical(TEXT))
 
     def test_read_only_file_is_left_unless_forced(self):
@@ -153,37 +138,33 @@ class Kept(Case):
         self.put("c", OTHER)
         path.chmod(0o444)
         why = "a: is read-only (--force replaces it)"
-        self.refuses(f"{why}; left as it is\n", "canonicalise", "b", "a")
-        self.refuses(f"{why}; not written\n", "canonicalise", "-o", "a", "c")
-        self.prints(b"", "canonicalise", "b")
+        self.refuses(f"{why}; left as it is\n", "canonicalise b a")
+        self.refuses(f"{why}; not written\n", "canonicalise -o a c")
+        self.prints(b"", "canonicalise b")
         self.assertEqual((path.read_bytes(), self.left()), (TEXT, ["a", "b", "c"]))
-        self.prints(b"", "canonicalise", "--force", "a")
+        self.prints(b"", "canonicalise --force a")
         self.assertEqual(path.read_bytes(), canonical)
         self.assertEqual(stat.S_IMODE(path.stat().st_mode), 0o444)
         # Somebody else's rights, as on a file system that is read-only.
         denied = "os.access = lambda path, how: how != os.W_OK"
         self.assertIn(b"c: is read-only", self.patched(denied, "c", status=1))
-        self.assertEqual((self.folder / "c").read_bytes(), OTHER)
+        self.assertEqual(self.content("c"), OTHER)
 
     def test_new_file_gets_the_rights_of_any_new_file(self):
         self.put("a", TEXT)
         self.addCleanup(os.umask, os.umask(0))
-        for number, (mask, rights) in enumerate(
-            ((0o022, None), (0o077, None), (0o022, OWNED_BY_OTHERS), (0o077, OWNED_BY_OTHERS))
-        ):
+        for number, mask in enumerate((0o022, 0o077, 0o022, 0o077)):
             os.umask(mask)
             plain = self.put(f"{number}/plain", b"")
-            if rights:
-                self.attributes(plain.parent, system_of_posix_acl_default=rights)
+            if number >= 2:
+                self.attributes(plain.parent, system_of_posix_acl_default=OWNED_BY_OTHERS)
                 plain.unlink()
                 plain.write_bytes(b"")
-            self.prints(b"", "canonicalise", "-o", f"{number}/out", "a")
+            self.prints(b"", f"canonicalise -o {number}/out a")
             made = plain.parent / "out"
             self.assertEqual(made.read_bytes(), self.canonical(TEXT))
-            self.assertEqual(
-                (made.stat().st_mode, self.attributes(made)),
-                (plain.stat().st_mode, self.attributes(plain)),
-            )
+            self.assertEqual(made.stat().st_mode, plain.stat().st_mode)
+            self.assertEqual(self.attributes(made), self.attributes(plain))
 
     def aged(self, name: str, age: int) -> Path:
         """Makes a file of this age."""
@@ -204,17 +185,19 @@ class Kept(Case):
             f"x.plistconv-12-{DIGITS}",
         ):
             self.aged(name, 9 * DAY)
-        os.symlink("a", str(self.folder / f".plistconv-14-{DIGITS}"))
-        os.utime(str(self.folder / f".plistconv-14-{DIGITS}"), (0, 0), follow_symlinks=False)
-        (self.folder / f".plistconv-15-{DIGITS}").mkdir()
-        os.utime(str(self.folder / f".plistconv-15-{DIGITS}"), (0, 0))
+        link, folder = (self.folder / f".plistconv-{number}-{DIGITS}" for number in (14, 15))
+        os.symlink("a", str(link))
+        os.utime(str(link), (0, 0), follow_symlinks=False)
+        folder.mkdir()
+        os.utime(str(folder), (0, 0))
         if os.geteuid() == 0:
             os.chown(str(self.aged(f".plistconv-16-{DIGITS}", 9 * DAY)), USER, -1)
         self.put("a", self.canonical(TEXT))
         left = self.left()
         left.remove(old.name)
-        line = f"plistconv-canonicalise: {os.path.realpath(old)}: removed; a run that was killed left it\n"
-        self.assertEqual(self.tool("canonicalise", "a").stderr.decode(), line)
+        why = f"{os.path.realpath(old)}: removed; a run that was killed left it"
+        said = self.says("canonicalise a", status=0)
+        self.assertEqual(said, f"plistconv-canonicalise: {why}\n")
         self.assertEqual(self.left(), left)
 
     def test_what_a_kill_leaves_is_removed(self):
@@ -223,10 +206,10 @@ class Kept(Case):
         self.patched(kill, "a", status=-signal.SIGKILL)
         (name,) = set(self.left()) - {"a"}
         self.assertRegex(name, r"^\.plistconv-[0-9]+-[0-9a-f]{16}$")
-        self.prints(b"", "canonicalise", "a")
+        self.prints(b"", "canonicalise a")
         self.assertEqual(self.left(), [name, "a"])
         os.utime(str(self.folder / name), (0, 0))
-        self.refuses(f"{name}: removed", "canonicalise", "a", status=0)
+        self.refuses(f"{name}: removed", "canonicalise a", status=0)
         self.assertEqual(self.left(), ["a"])
 
 

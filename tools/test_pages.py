@@ -1,7 +1,6 @@
 """Tests what the pages say about the commands, and how many jobs `make` runs."""
 from __future__ import annotations
 
-import os
 import re
 import unittest
 
@@ -37,43 +36,31 @@ class Pages(Case):
             ("staged", lines[2]),
             ("canonicalise", lines[3]),
         ):
-            self.assertIn(f"  {line}\n", self.tool(name, "--help").stdout.decode())
+            self.assertIn(f"  {line}\n", self.tool(f"{name} --help").stdout.decode())
 
     def test_sample_for_the_framework_has_what_it_needs(self):
         manual, hooks = page("man/plistconv-tools.1"), page(".pre-commit-hooks.yaml")
-        sample = re.search(
-            r"(?ms)^default_install_hook_types: \[(.*?)]\nrepos:\n(.*?)^\.RE", manual
-        )
+        lines = r"(?ms)^default_install_hook_types: \[(.*?)]\nrepos:\n(.*?)^\.RE"
+        sample = re.search(lines, manual)
         self.assertEqual(sample[1], "pre-commit, pre-merge-commit")
         self.assertIn(re.search("(?m)- id: .*$", hooks)[0], sample[2])
-        self.assertIn(
-            "\n.B rev\na commit there, no branch: that of the program on the path", manual
-        )
+        rev = "\n.B rev\na commit there, no branch: that of the program on the path"
+        self.assertIn(rev, manual)
 
     def test_manual_has_every_option(self):
         manual = page("man/plistconv-tools.1")
         for name in COMMANDS:
-            for option in re.findall(r"--[a-z-]+", self.tool(name, "--help").stdout.decode()):
+            for option in re.findall(r"--[a-z-]+", self.tool(f"{name} --help").stdout.decode()):
                 self.assertIn(option, manual, name)
 
     def test_pages_say_what_converters_of_xml_differ_in(self):
         for name in ("docs/RECIPES.md", "man/plistconv.1"):
             text = " ".join(page(name).split())
-            for word in (
-                "CR LF",
-                "base64",
-                "duplicate key",
-                "64 bits",
-                "second value",
-                "fraction",
-                "8 bytes",
-                "4 bytes",
-            ):
+            values = "64 bits", "second value", "fraction", "8 bytes", "4 bytes"
+            for word in ("CR LF", "base64", "duplicate key", *values):
                 self.assertIn(word, text, name)
-            places = [
-                text.index(word)
-                for word in ("plistconv-canonicalise --from-xml", "plistutil -i", "plutil -convert")
-            ]
+            words = "plistconv-canonicalise --from-xml", "plistutil -i", "plutil -convert"
+            places = [text.index(word) for word in words]
             self.assertEqual(places, sorted(places), name)
             self.assertRegex(text, r"plutil -convert binary1 -o OUT IN *[(#] ?macOS")
 
@@ -82,16 +69,9 @@ class Jobs(Case):
     """scripts/jobs.sh"""
 
     def test_jobs_follow_memory_and_processors(self):
-        processors = (
-            len(os.sched_getaffinity(0)) if hasattr(os, "sched_getaffinity") else os.cpu_count()
-        )
-        for kilobytes, jobs in (
-            (1, 1),
-            (8_000_000, 1),
-            (16_300_000, 2),
-            (24_700_000, 4),
-            (10**12, processors),
-        ):
+        processors = int(self.call(["nproc"]).stdout)
+        few = (1, 1), (8_000_000, 1), (16_300_000, 2), (24_700_000, 4)
+        for kilobytes, jobs in (*few, (10**12, processors)):
             memory = self.put("memory", b"MemFree: 7 kB\nMemTotal:       %d kB\n" % kilobytes)
             printed = self.call([str(TOP / "scripts" / "jobs.sh"), str(memory)]).stdout
             self.assertEqual(printed, b"%d\n" % min(jobs, processors))

@@ -50,7 +50,7 @@ class Signals(Case):
     def contents(self) -> list:
         """Makes sure that nothing is left beside the files, and returns which are canonical."""
         self.assertEqual(self.left(), ["a", "b"])
-        contents = [(self.folder / name).read_bytes() for name in ("a", "b")]
+        contents = [self.content(name) for name in ("a", "b")]
         for octets in contents:
             self.assertIn(octets, (self.old, self.made))
         return [octets == self.made for octets in contents]
@@ -78,10 +78,8 @@ class Signals(Case):
             states.append(self.contents())
         # What follows a step is not done.
         self.assertEqual(states, sorted(states))
-        self.assertEqual(
-            [state for state in ([False, False], [True, False], [True, True]) if state in states],
-            [[False, False], [True, False], [True, True]],
-        )
+        for state in ([False, False], [True, False], [True, True]):
+            self.assertIn(state, states)
 
     def test_every_signal_leaves_the_file_as_it_was_and_nothing_beside_it(self):
         for name in SIGNALS:
@@ -102,25 +100,16 @@ class Signals(Case):
 
     def test_signal_while_the_program_runs_ends_both(self):
         fifo = self.folder / "fifo"
-        for number, (tool, words) in enumerate(
-            (
-                ("canonicalise", ["a", "b"]),
-                ("canonicalise", ["-o", "a", "b"]),
-                ("digest", ["a"]),
-                ("diff", ["a", "c"]),
-                ("textconv", ["a"]),
-            )
-        ):
+        commands = "canonicalise a b", "canonicalise -o a b", "digest a", "diff a c", "textconv a"
+        for name, command in zip(SIGNALS, commands):
             self.restore()
             self.put("c", OTHER)
             os.mkfifo(str(fifo))
             reading = os.open(str(fifo), os.O_RDONLY | os.O_NONBLOCK)
-            name = SIGNALS[number]
             env = self.program("exec 9> fifo\n" + KILLS % name[3:])
-            run = self.tool(tool, *words, status=128 + getattr(signal, name), env=env)
-            self.assertEqual((run.stdout, run.stderr), (b"", b""))
+            self.prints(b"", command, status=128 + getattr(signal, name), env=env)
             # The pipe is closed once no program runs that would write to it.
-            self.assertTrue(select.select([reading], [], [], 60)[0], tool)
+            self.assertTrue(select.select([reading], [], [], 60)[0], command)
             self.assertEqual(os.read(reading, 1), b"")
             os.close(reading)
             for path in (fifo, self.folder / "bin" / "program", self.folder / "c"):
@@ -129,19 +118,16 @@ class Signals(Case):
             self.assertEqual(self.contents(), [False, False])
 
     def test_index_of_a_bare_repository_is_removed(self):
-        self.git("init", "-q")
+        self.git("init -q")
         self.put("a.plist", TEXT)
-        self.git("add", "-A")
-        self.git("commit", "-qm", "one")
-        self.git("clone", "-q", "--bare", ".", "bare.git")
-        bare, temporary = str(self.folder / "bare.git"), self.folder / "temporary"
+        self.git("add -A")
+        self.git("commit -qm one")
+        self.git("clone -q --bare . bare.git")
+        temporary = self.folder / "temporary"
         temporary.mkdir()
-        env = {
-            **self.program(KILLS % "TERM"),
-            "TMPDIR": str(temporary),
-        }
-        run = self.tool("staged", "--all", status=143, cwd=bare, env=env)
-        self.assertEqual((run.stdout, run.stderr, os.listdir(str(temporary))), (b"", b"", []))
+        env = {**self.program(KILLS % "TERM"), "TMPDIR": str(temporary)}
+        self.prints(b"", "staged --all", status=143, cwd="bare.git", env=env)
+        self.assertEqual(os.listdir(str(temporary)), [])
 
     def test_pipe_that_cannot_be_closed_does_not_hide_the_signal(self):
         self.restore()
@@ -153,7 +139,7 @@ class Signals(Case):
         )
         env = self.program(KILLS % "TERM")
         self.assertEqual(self.patched(lines, "a", "b", status=143, env=env), b"")
-        self.assertEqual((self.folder / "a").read_bytes(), self.old)
+        self.assertEqual(self.content("a"), self.old)
 
 
 if __name__ == "__main__":

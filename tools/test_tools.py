@@ -24,6 +24,7 @@ from testing import (
     XML,
     XML_PRINTED,
     Case,
+    binary,
 )
 
 WORDS = {
@@ -41,111 +42,76 @@ class EveryCommand(Case):
 
     def setUp(self):
         super().setUp()
-        self.put("a", TEXT)
-        self.put("other", OTHER)
+        self.put_all({"a": TEXT, "other": OTHER})
 
     def test_help_is_the_docstring_in_80_columns(self):
         for name in COMMANDS:
-            shown = self.tool(name, "--help").stdout.decode()
+            shown = self.tool(f"{name} --help").stdout.decode()
             source = (TOOLS / f"plistconv-{name}").read_text(encoding="utf-8")
             self.assertIn(ast.get_docstring(ast.parse(source)), shown)
             self.assertLessEqual(max(map(len, shown.splitlines())), 80, name)
-            self.assertEqual(shown, self.tool(name, "-h").stdout.decode())
+            self.assertEqual(shown, self.tool(f"{name} -h").stdout.decode())
 
     def test_arguments_that_are_missing_or_unknown_are_status_2(self):
         for name in COMMANDS:
             if name != "staged":
                 self.refuses(f"usage: plistconv-{name}", name, status=2)
-            for words in (
-                ["--none", "1", "2", "3"],
-                ["a", "--none=3", "1"],
-                ["--none", "--", "-x"],
-                ["-x\n--none", "a"],
+            for words, option in (
+                (["--none", "1", "2", "3"], "--none"),
+                (["a", "--none=3", "1"], "--none=3"),
+                (["--none", "--", "-x"], "--none"),
+                (["-x\n--none", "a"], r"-x\n--none"),
             ):
                 self.refuses(f"usage: plistconv-{name}", name, *words, status=2)
-                option = next(word for word in words if word.startswith("-")).replace("\n", r"\n")
                 self.refuses(f"error: there is no option {option}\n", name, *words, status=2)
 
     def test_version_is_that_of_the_program(self):
         version = self.call([PROGRAM, "--version"]).stdout.split()[1].decode()
         for name in COMMANDS:
-            self.prints(f"plistconv-{name} {version}\n".encode(), name, "--version")
+            self.prints(f"plistconv-{name} {version}\n".encode(), f"{name} --version")
 
     def test_standard_input_is_read_once(self):
         for name in ("canonicalise", "digest", "diff"):
             for words in (["-", "-"], ["-", "/dev/stdin"]):
-                self.refuses(
-                    "error: standard input is named twice", name, *words, status=2, input=TEXT
-                )
+                self.refuses("error: standard input is named twice", name, *words, status=2)
 
     def test_no_program_is_status_2(self):
-        self.git("init", "-q")
+        self.git("init -q")
         self.put("a.plist", TEXT)
-        self.git("add", "-A")
+        self.git("add -A")
+        why, env = "there is no program /none/plistconv", {"PLISTCONV": "/none/plistconv"}
         for name in COMMANDS:
             if name != "where":
-                env = {**self.environment, "PLISTCONV": "/none/plistconv"}
-                self.refuses(
-                    "there is no program /none/plistconv",
-                    name,
-                    *WORDS[name],
-                    status=2,
-                    env=env,
-                    input=TEXT,
-                )
+                self.refuses(why, name, *WORDS[name], status=2, env=env, input=TEXT)
 
     def test_full_device_for_output_is_status_2_and_said(self):
         if not os.path.exists("/dev/full"):
             self.skipTest("skipped: there is no /dev/full")
-        unbuffered = {**self.environment, "PYTHONUNBUFFERED": "1"}
         for name in COMMANDS:
             for words in [["--help"], ["--version"], *([WORDS[name]] if name != "staged" else [])]:
-                for env in (self.environment, unbuffered):
+                for env in ({}, {"PYTHONUNBUFFERED": "1"}):
                     with open("/dev/full", "wb") as full:
-                        self.refuses(
-                            "standard output cannot be written: No space",
-                            name,
-                            *words,
-                            status=2,
-                            stdout=full,
-                            printed=None,
-                            input=TEXT,
-                            env=env,
-                        )
+                        said = self.says(name, *words, status=2, stdout=full, input=TEXT, env=env)
+                    self.assertIn("standard output cannot be written: No space", said)
+
+    def closed(self, files: str, name: str, *words, status: int) -> bytes:
+        """Runs a command after the shell closed files, and returns its messages."""
+        command = ["sh", "-c", f'exec "$@" {files}', "sh", sys.executable]
+        path = str(TOOLS / f"plistconv-{name}")
+        return self.call([*command, path, *words], status, input=TEXT).stderr
 
     def test_closed_output_is_status_2_and_said(self):
         for name in COMMANDS:
-            for more in [WORDS[name], ["--help"]] if name != "staged" else [["--help"]]:
-                words = [
-                    "sh",
-                    "-c",
-                    'exec "$@" >&-',
-                    "sh",
-                    sys.executable,
-                    str(TOOLS / f"plistconv-{name}"),
-                    *more,
-                ]
-                run = self.call(words, 2, input=TEXT)
-                self.assertIn(b"standard output cannot be written: Bad file descriptor", run.stderr)
+            for words in [WORDS[name], ["--help"]] if name != "staged" else [["--help"]]:
+                said = self.closed(">&-", name, *words, status=2)
+                self.assertIn(b"standard output cannot be written: Bad file descriptor", said)
 
     def test_closed_error_and_input_write_into_no_file(self):
-        before = self.put("b.plist", SAME)
-        words = [sys.executable, str(TOOLS / "plistconv-canonicalise"), "b.plist", "none"]
-        self.call(["sh", "-c", 'exec "$@" <&- >&- 2>&-', "sh", *words], 1)
-        self.assertEqual(before.read_bytes(), self.canonical(SAME))
-        run = self.call(
-            [
-                "sh",
-                "-c",
-                'exec "$@" <&-',
-                "sh",
-                sys.executable,
-                str(TOOLS / "plistconv-digest"),
-                "-",
-            ],
-            1,
-        )
-        self.assertIn(b"-: Bad file descriptor", run.stderr)
+        self.put("b.plist", SAME)
+        self.closed("<&- >&- 2>&-", "canonicalise", "b.plist", "none", status=1)
+        self.assertEqual(self.content("b.plist"), self.canonical(SAME))
+        said = self.closed("<&-", "digest", "-", status=1)
+        self.assertIn(b"-: Bad file descriptor", said)
 
     def test_reader_that_goes_away_gets_no_traceback(self):
         for name in ("digest", "diff", "textconv", "where", "canonicalise"):
@@ -157,65 +123,41 @@ class EveryCommand(Case):
 
     def test_interrupt_prints_no_traceback(self):
         # While the modules are read, and while the program runs.
-        self.put(
-            "modules/argparse.py",
-            b"import os, signal, time\nos.kill(os.getpid(), signal.SIGINT)\ntime.sleep(9)\n",
-        )
-        env = {**self.environment, "PYTHONPATH": str(self.folder / "modules")}
+        lines = b"import os, signal, time\nos.kill(os.getpid(), signal.SIGINT)\ntime.sleep(9)\n"
+        env = {"PYTHONPATH": str(self.put("modules/argparse.py", lines).parent)}
         for name in COMMANDS:
-            run = self.tool(name, *WORDS[name], status=-signal.SIGINT, env=env, input=TEXT)
-            self.assertEqual((run.stdout, run.stderr), (b"", b""))
-        self.put("program", b"#!/bin/sh\nkill -INT $PPID\n").chmod(0o755)
-        env = {**self.environment, "PLISTCONV": str(self.folder / "program")}
+            self.prints(b"", name, *WORDS[name], status=-signal.SIGINT, env=env, input=TEXT)
+        env = self.program("kill -INT $PPID")
         for name in ("canonicalise", "digest", "diff", "textconv"):
-            run = self.tool(name, *WORDS[name], status=130, env=env, input=TEXT)
-            self.assertEqual((run.stdout, run.stderr), (b"", b""))
+            self.prints(b"", name, *WORDS[name], status=130, env=env, input=TEXT)
 
     def test_texts_that_are_too_long(self):
         # Twenty-two arrays that each contain the one before twice print more than 64 MB.
-        halves = b"".join(b"\xa2" + bytes([at + 1, at + 1]) for at in range(22)) + b"Qx"
-        places = bytes(8 + 3 * at for at in range(23))
-        deep = (
-            b"bplist00"
-            + halves
-            + places
-            + bytes(6)
-            + b"\1\1"
-            + bytes(7)
-            + bytes([23])
-            + bytes(15)
-            + bytes([8 + len(halves)])
-        )
-        self.put("deep", deep)
+        deep = binary(*(b"\xa2" + bytes([at + 1, at + 1]) for at in range(22)), b"Qx")
+        self.put_all({"deep": deep, "copy": deep})
         digest = hashlib.sha256(deep).hexdigest()
-        why = "prints more than %s bytes, the limit (PLISTCONV_PRINT_LIMIT)"
-        self.prints(
-            f"Binary file: {why % 64000000}; SHA-256 {digest}\n".encode(), "textconv", "deep"
-        )
-        self.refuses(f"plistconv-diff: deep: {why % 64000000}", "diff", "a", "deep", status=2)
-        self.put("copy", deep)
-        self.prints(b"", "diff", "deep", "copy")
-        for limit, status in ((len(PRINTED), 1), (len(PRINTED) - 1, 2)):
-            env = {**self.environment, "PLISTCONV_PRINT_LIMIT": str(limit)}
-            self.tool("diff", "a", "other", status=status, env=env)
-            self.prints(b"", "diff", "a", "a", env=env)
-        env = {**self.environment, "PLISTCONV_PRINT_LIMIT": ""}  # as if it was not set
-        self.tool("diff", "a", "other", status=1, env=env)
-        env = {**self.environment, "PLISTCONV_PRINT_LIMIT": "1 GB"}
-        self.refuses(
-            "PLISTCONV_PRINT_LIMIT is no number of bytes: 1 GB", "textconv", "a", status=2, env=env
-        )
+        why = "prints more than 64000000 bytes, the limit (PLISTCONV_PRINT_LIMIT)"
+        self.prints(f"Binary file: {why}; SHA-256 {digest}\n".encode(), "textconv deep")
+        self.refuses(f"plistconv-diff: deep: {why}", "diff a deep", status=2)
+        self.prints(b"", "diff deep copy")
+        # An empty limit is as if none was set.
+        for limit, status in ((len(PRINTED), 1), (len(PRINTED) - 1, 2), ("", 1)):
+            env = {"PLISTCONV_PRINT_LIMIT": str(limit)}
+            self.tool("diff a other", status=status, env=env)
+            self.prints(b"", "diff a a", env=env)
+        why, env = "is no number of bytes: 1 GB", {"PLISTCONV_PRINT_LIMIT": "1 GB"}
+        self.refuses(f"PLISTCONV_PRINT_LIMIT {why}", "textconv a", status=2, env=env)
 
     def textconv(self, *words, **more) -> bytes:
         """Returns what plistconv-textconv prints of a text before the line with its digest."""
         return self.tool("textconv", *words, **more).stdout.partition(b"Bytes: SHA-256 ")[0]
 
     def test_no_temporary_folder_is_needed(self):
-        env = {**self.environment, "TMPDIR": "/none"}
-        self.assertEqual(self.textconv("a", env=env), PRINTED)
-        self.tool("digest", "a", env=env)
-        self.tool("diff", "a", "other", status=1, env=env)
-        self.tool("canonicalise", "--from-xml", "a", env=env)
+        self.environment["TMPDIR"] = "/none"
+        self.assertEqual(self.textconv("a"), PRINTED)
+        self.tool("digest a")
+        self.tool("diff a other", status=1)
+        self.tool("canonicalise --from-xml a")
         self.assertEqual(self.left(), ["a", "other"])
 
     def test_no_module_of_this_folder_is_run(self):
@@ -223,30 +165,22 @@ class EveryCommand(Case):
             self.put(f"{module}.py", b'open("taken", "w")\n')
         self.put("x", XML)
         self.assertEqual(self.textconv("x"), XML_PRINTED)
-        self.tool("where", "a", "1")
+        self.tool("where a 1")
         self.assertNotIn("taken", self.left())
 
     def test_program_is_found_beside_the_command_or_on_the_path(self):
-        env = {name: value for name, value in self.environment.items() if name != "PLISTCONV"}
-        checkout, installed = (
-            self.folder / "one" / "share" / "plistconv",
-            self.folder / "two" / "share" / "plistconv",
-        )
+        del self.environment["PLISTCONV"]
+        checkout, installed = (self.folder / it / "share" / "plistconv" for it in ("one", "two"))
         for folder in (checkout, installed):
-            shutil.copytree(
-                str(TOOLS), str(folder / "tools"), ignore=shutil.ignore_patterns("__pycache__")
-            )
+            shutil.copytree(str(TOOLS), str(folder / "tools"))
         (checkout / "crates.txt").write_bytes(b"")
+        command = self.put("bin/plistconv-textconv", b"")
 
         def prints(folder, path="/none", status=0):
-            os.makedirs(str(self.folder / "bin"), exist_ok=True)
-            command = self.folder / "bin" / "plistconv-textconv"
-            if command.is_symlink():
-                command.unlink()
+            command.unlink()
             os.symlink(str(folder / "tools" / "plistconv-textconv"), str(command))
-            run = self.call(
-                [sys.executable, "bin/plistconv-textconv", "a"], status, env={**env, "PATH": path}
-            )
+            words = [sys.executable, "bin/plistconv-textconv", "a"]
+            run = self.call(words, status, env={"PATH": path})
             self.assertEqual(run.stdout.partition(b"Bytes")[0], b"" if status else PRINTED)
 
         for folder in (checkout, installed):
@@ -271,15 +205,14 @@ class EveryCommand(Case):
             prints(folder)
 
     def test_files_that_are_not_there_or_folders_are_said(self):
-        for name, status in (
-            ("canonicalise", 1),
-            ("digest", 1),
-            ("diff", 2),
-            ("textconv", 2),
-            ("where", 1),
+        for name, more, status in (
+            ("canonicalise", [], 1),
+            ("digest", [], 1),
+            ("diff", ["a"], 2),
+            ("textconv", [], 2),
+            ("where", ["1"], 1),
         ):
             for file, why in (("none", "No such file"), ("", "No such file"), (".", "")):
-                more = ["a"] if name == "diff" else ["1"] if name == "where" else []
                 self.refuses(f"plistconv-{name}: {file}: {why}", name, file, *more, status=status)
 
     def test_names_that_are_not_utf8_or_begin_with_a_dash(self):
@@ -289,12 +222,12 @@ class EveryCommand(Case):
                 self.put(name, TEXT)
             except OSError:
                 self.skipTest("skipped: no file here has such a name")
-            self.prints(digest + b"  " + name + b"\n", "digest", "--", name)
+            self.prints(digest + b"  " + name + b"\n", "digest --", name)
             self.assertEqual(self.textconv("--", name), PRINTED)
             self.assertEqual(self.textconv(name), PRINTED)
-            self.tool("diff", "--", name, "other", status=1)
-            self.tool("where", "--", name, "1")
-            self.tool("canonicalise", "--", name)
+            self.tool("diff --", name, "other", status=1)
+            self.tool("where --", name, "1")
+            self.tool("canonicalise --", name)
         self.put(b"caf\xe9\n\x1b.plist", TWICE)
         self.refuses(r"caf\xe9\n\x1b.plist: refused 14", "digest", b"caf\xe9\n\x1b.plist")
 

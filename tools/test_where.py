@@ -4,7 +4,7 @@ from __future__ import annotations
 import re
 import unittest
 
-from testing import PROGRAM, TEXT, Case
+from testing import PROGRAM, TEXT, Case, binary, trailer
 
 
 class Where(Case):
@@ -21,13 +21,12 @@ class Where(Case):
             (2, "lines:1:2\n{\n ^\n"),
             (11, 'lines:2:8\n  a = "é .";\n       ^\n'),
         ):
-            self.prints(wanted.encode(), "where", "lines", str(offset))
-        self.prints(
-            "-:1:6\n{a = \ufffd;}\n     ^\n".encode(), "where", "-", "5", input=b"{a = \xff;}"
-        )
-        self.refuses("lines: has 28 bytes", "where", "lines", "29")
+            self.prints(wanted.encode(), f"where lines {offset}")
+        wanted = "-:1:6\n{a = \ufffd;}\n     ^\n"
+        self.prints(wanted.encode(), "where - 5", input=b"{a = \xff;}")
+        self.refuses("lines: has 28 bytes", "where lines 29")
         for wrong in ("x", "-1", "", "1.5", "٣"):
-            self.refuses("usage: plistconv-where", "where", "--", "lines", wrong, status=2)
+            self.refuses("usage: plistconv-where", "where -- lines", wrong, status=2)
 
     def test_place_of_a_refusal_in_utf16(self):
         for encoding, mark in (
@@ -37,37 +36,16 @@ class Where(Case):
         ):
             self.put("wide", mark + '{\nk = "é"; @'.encode(encoding))
             offset = self.call([PROGRAM, "lint", "wide"], 2).stdout.split()[-1]
-            self.prints('wide:2:10\nk = "é"; @\n         ^\n'.encode(), "where", "wide", offset)
+            self.prints('wide:2:10\nk = "é"; @\n         ^\n'.encode(), "where wide", offset)
 
     def test_binary_files_and_long_lines(self):
         self.put("binary", self.canonical(TEXT))
-        self.refuses("binary: a binary property list has no lines", "where", "binary", "1")
-        self.refuses("binary: a binary property list has no lines", "where", "binary", "octet", "1")
-        self.prints(b"-:1:2\nab\n ^\n", "where", "-", "octet", "1", input=b"ab")
-        self.put("long", b"x" * 10_000)
-        self.prints(
-            b"-:1:5001\n" + b"x" * 120 + b"\n" + b" " * 60 + b"^\n",
-            "where",
-            "-",
-            "5000",
-            input=b"x" * 10_000,
-        )
-
-
-def binary(*objects, top=0, count=None, table=None) -> bytes:
-    """Returns a binary file of these objects, with references and offsets of one byte."""
-    begins, body = [], b"bplist00"
-    for octets in objects:
-        begins.append(len(body))
-        body += octets
-    numbers = (len(objects) if count is None else count, top, len(body) if table is None else table)
-    return (
-        body
-        + bytes(begins)
-        + bytes(6)
-        + b"\1\1"
-        + b"".join(number.to_bytes(8, "big") for number in numbers)
-    )
+        for place in ("1", "octet 1"):
+            why = "binary: a binary property list has no lines"
+            self.refuses(why, f"where binary {place}")
+        self.prints(b"-:1:2\nab\n ^\n", "where - octet 1", input=b"ab")
+        wanted = b"-:1:5001\n" + b"x" * 120 + b"\n" + b" " * 60 + b"^\n"
+        self.prints(wanted, "where - 5000", input=b"x" * 10_000)
 
 
 class Objects(Case):
@@ -76,44 +54,21 @@ class Objects(Case):
     def finds(self, octets, number, where, path) -> None:
         """Expects this place of an object, and this path."""
         self.put("f", octets)
-        self.prints(
-            f"f: object {number} begins at byte {where}\n{path}\n".encode(),
-            "where",
-            "f",
-            "object",
-            str(number),
-        )
+        wanted = f"f: object {number} begins at byte {where}\n{path}\n"
+        self.prints(wanted.encode(), f"where f object {number}")
 
     def test_archive_whose_uid_is_refused(self):
-        octets = binary(
-            b"\xd2\1\2\3\4",
-            b"T$top",
-            b"Wobjects",
-            b"\xd1\5\6",
-            b"\xa4\7\7\7\x08",
-            b"Troot",
-            b"\x80\1",
-            b"\x09",
-            b"\xd1\x09\x0a",
-            b"Sisa",
-            b"\x81\1\x2c",
-        )
+        top = b"\xd2\1\2\3\4", b"T$top", b"Wobjects", b"\xd1\5\6", b"\xa4\7\7\7\x08"
+        rest = b"Troot", b"\x80\1", b"\x09", b"\xd1\x09\x0a", b"Sisa", b"\x81\1\x2c"
+        octets = binary(*top, *rest)
         self.put("f", octets)
         number = int(self.call([PROGRAM, "lint", "f"], 2).stdout.split()[-1])
         self.finds(octets, number, "39: 80, a UID of 1 byte", 'root["$top"].root')
         self.finds(octets, 10, "49: 81, a UID of 2 bytes", "root.objects[3].isa")
 
     def test_paths(self):
-        octets = binary(
-            b"\xd2\1\2\3\4",
-            b"Sisa",
-            b'T"\x7f a',
-            b"\xa2\5\6",
-            b"\xd1\6\5",
-            b"\x09",
-            b"\x11\1\2",
-            b"\x08",
-        )
+        top = b"\xd2\1\2\3\4", b"Sisa", b'T"\x7f a', b"\xa2\5\6"
+        octets = binary(*top, b"\xd1\6\5", b"\x09", b"\x11\1\2", b"\x08")
         for number, where, path in (
             (0, "8: d2, a dictionary of 2 pairs", "root"),
             (1, "13: 53, a string of 3 ASCII characters", "root.isa (the key)"),
@@ -149,13 +104,10 @@ class Objects(Case):
             self.finds(binary(octets), 0, f"8: {octets[0]:02x}, {words}", "root")
 
     def test_key_that_a_dictionary_has_twice_is_named(self):
+        spaced = b"\xd3\1\2\3\4\4\4", b"Sa b", b"Qb", b"\x63\0a\0 \0b", b"\x09"
         for octets, pairs, key in (
             (binary(b"\xd2\1\1\2\3", b"Qa", b"\x09", b"\x08"), "0 and 1", ".a"),
-            (
-                binary(b"\xd3\1\2\3\4\4\4", b"Sa b", b"Qb", b"\x63\0a\0 \0b", b"\x09"),
-                "0 and 2",
-                '["a b"]',
-            ),
+            (binary(*spaced), "0 and 2", '["a b"]'),
         ):
             self.put("f", octets)
             line = self.call([PROGRAM, "lint", "f"], 2).stdout.decode()
@@ -177,62 +129,32 @@ class Objects(Case):
         many = 50_000
         body = b"".join(b"\xa1" + (at + 1).to_bytes(2, "big") for at in range(many)) + b"\x09"
         table = b"".join((8 + 3 * at).to_bytes(4, "big") for at in range(many + 1))
-        trailer = (
-            bytes(6)
-            + b"\4\2"
-            + b"".join(n.to_bytes(8, "big") for n in (many + 1, 0, 8 + len(body)))
-        )
-        deep = b"bplist00" + body + table + trailer
+        end = trailer(b"\4\2", many + 1, 0, 8 + len(body))
+        deep = b"bplist00" + body + table + end
         self.finds(deep, many, f"{8 + 3 * many}: 09, true", "root" + "[0]" * many)
 
     def test_broken_files(self):
         good = binary(b"\xa1\1", b"Qa")
-        self.finds(
-            good[:8] + b"\xa7" + good[9:],
-            0,
-            "8: a7, an array of 7 items; it reaches past byte 11, the last before "
-            "the offset table",
-            "root",
-        )
-        self.finds(
-            good[:8] + b"\xa1\x09" + good[10:],
-            1,
-            "10: 51, a string of 1 ASCII character",
-            "no path leads to it from the top, object 0",
-        )
-        self.finds(
-            good[:12] + b"\x08\xff" + good[14:],
-            1,
-            "255; the objects are from byte 8 to 11",
-            "root[0]",
-        )
-        self.finds(
-            binary(b"\xa1\1", b"Qa", top=9),
-            1,
-            "10: 51, a string of 1 ASCII character",
-            "no path leads to it from the top, object 9",
-        )
+        past = "it reaches past byte 11, the last before the offset table"
+        self.finds(good[:8] + b"\xa7" + good[9:], 0, f"8: a7, an array of 7 items; {past}", "root")
+        where, none = "10: 51, a string of 1 ASCII character", "no path leads to it from the top"
+        self.finds(good[:8] + b"\xa1\x09" + good[10:], 1, where, f"{none}, object 0")
+        self.finds(binary(b"\xa1\1", b"Qa", top=9), 1, where, f"{none}, object 9")
+        where = "255; the objects are from byte 8 to 11"
+        self.finds(good[:12] + b"\x08\xff" + good[14:], 1, where, "root[0]")
+        most = 2**64 - 1
         for octets, why in (
             (good, "its offset table has 2 objects, so there is no object 2"),
             (binary(b"\x09", count=9), "its offset table is cut, so there is no object 2"),
-            (
-                binary(b"\x09", count=2**64 - 1, table=2**64 - 1),
-                "its offset table is cut, so there is no object 2",
-            ),
+            (binary(b"\x09", count=most, table=most), "its offset table is cut, so there is no"),
             (b"bplist00", "has 8 bytes, too few for objects"),
             (good[:-26] + b"\0" + good[-25:], "a width that is not from 1"),
             (TEXT, "is no binary property list, so it has no objects"),
         ):
             self.put("f", octets)
-            self.refuses(why, "where", "f", "object", "2")
-        for words in (
-            ["object", "-1"],
-            ["object"],
-            ["place", "1"],
-            ["object", "1", "2"],
-            ["object", "9" * 21],
-        ):
-            self.refuses("usage: plistconv-where", "where", "--", "f", *words, status=2)
+            self.refuses(why, "where f object 2")
+        for words in ("object -1", "object", "place 1", "object 1 2", f"object {'9' * 21}"):
+            self.refuses("usage: plistconv-where", f"where -- f {words}", status=2)
 
     def test_hostile_files_end(self):
         # Each byte begins an array with all bytes that follow; and one array that
@@ -241,13 +163,9 @@ class Objects(Case):
         body = b"".join(b"\xaf\x12" + (1 << 20).to_bytes(4, "big") for _ in range(many))
         for step in (6, 0):
             table = b"".join((8 + step * at).to_bytes(4, "big") for at in range(many))
-            trailer = (
-                bytes(6)
-                + b"\4\2"
-                + b"".join(n.to_bytes(8, "big") for n in (many, 0, 8 + len(body)))
-            )
-            self.put("f", b"bplist00" + body + table + trailer)
-            self.tool("where", "f", "object", str(many - 1))
+            end = trailer(b"\4\2", many, 0, 8 + len(body))
+            self.put("f", b"bplist00" + body + table + end)
+            self.tool(f"where f object {many - 1}")
 
     def test_long_keys_that_share_their_bytes_end(self):
         many, long = 5_000, 1 << 21
@@ -256,11 +174,8 @@ class Objects(Case):
         begins = [len(head) + 6 * number for number in range(many)]
         body = head + (b"\x6f\x12" + long.to_bytes(4, "big")) * many + bytes(2 * long)
         table = b"".join(begin.to_bytes(4, "big") for begin in [8, *begins])
-        trailer = (
-            bytes(6) + b"\4\2" + b"".join(n.to_bytes(8, "big") for n in (many + 1, 0, len(body)))
-        )
-        self.put("f", body + table + trailer)
-        self.tool("where", "f", "object", "0")
+        self.put("f", body + table + trailer(b"\4\2", many + 1, 0, len(body)))
+        self.tool("where f object 0")
 
 
 if __name__ == "__main__":

@@ -26,18 +26,17 @@ class Xml(Case):
 
     def converted(self, octets: bytes) -> bytes:
         """Returns the canonical file."""
-        run = self.tool("canonicalise", "--from-xml", "-", input=octets)
+        run = self.tool("canonicalise --from-xml -", input=octets)
         self.assertEqual(run.stderr, b"")
         return run.stdout
 
     def refused(self, octets: bytes, why: str) -> None:
         """Expects every command that reads XML to refuse the document."""
-        self.refuses(f"-: refused as XML: {why}", "canonicalise", "--from-xml", "-", input=octets)
-        self.refuses(f"-: refused as XML: {why}", "diff", "-", "none", input=octets, status=2)
-        self.assertIn(
-            f"Binary file: refused as XML: {why}".encode(),
-            self.tool("textconv", "-", input=octets).stdout,
-        )
+        why = f"refused as XML: {why}"
+        self.refuses(f"-: {why}", "canonicalise --from-xml -", input=octets)
+        self.refuses(f"-: {why}", "diff - none", input=octets, status=2)
+        printed = self.tool("textconv -", input=octets).stdout
+        self.assertIn(f"Binary file: {why}".encode(), printed)
 
     def test_values_are_those_of_plistlib(self):
         value = {
@@ -54,24 +53,13 @@ class Xml(Case):
         self.assertEqual(self.converted(plistlib.dumps(value)), wanted)
 
     def test_reals_and_data_at_their_limits_are_read(self):
-        for value in (
-            *(
-                "1.7976931348623157e308",
-                "4.9e-324",
-                "0e999",
-                "-0.0e-999",
-                "infinity",
-                "-INF",
-                "nan",
-            ),
-            *("0e0", "000.000", "+1E+308"),
-        ):
+        most = "1.7976931348623157e308 4.9e-324 +1E+308 infinity -INF nan".split()
+        for value in (*most, "0e999", "-0.0e-999", "0e0", "000.000"):
             self.converted(document(f"<real>{value}</real>"))
-        for octets in (b"", *(bytes([one, two]) for one in (0, 255) for two in range(256))):
+        pairs = [bytes([one, two]) for one in (0, 255) for two in range(256)]
+        for octets in (b"", *pairs, *(pair[1:] for pair in pairs)):
             value = base64.b64encode(octets).decode()
-            self.assertEqual(plistconv_xml.LEAVES["data"].fullmatch(value) is not None, True, value)
-            value = base64.b64encode(octets[1:]).decode()
-            self.assertEqual(plistconv_xml.LEAVES["data"].fullmatch(value) is not None, True, value)
+            self.assertIsNotNone(plistconv_xml.LEAVES["data"].fullmatch(value), value)
 
     def test_spellings_of_one_value_are_equal(self):
         wanted = self.canonical(b"{ a = (b, <0001>); }")
@@ -139,35 +127,26 @@ class Xml(Case):
             ("<array>" * 600 + "</array>" * 600, "line 3: more than 512 levels"),
         ):
             self.refused(document(value), why)
-        self.refused(
-            b'<!DOCTYPE plist [<!ENTITY a "b">]><plist><string>&a;</string></plist>',
-            "line 1: an entity: a",
-        )
-        self.refused(
-            b'<?xml version="1.0" encoding="none"?><plist><true/></plist>', "unknown encoding"
-        )
-        self.refused(
-            b"<html/>".replace(b"<", b"<!-- --><", 1), "line 1: there is no element <html>"
-        )
+        entity = b'<!DOCTYPE plist [<!ENTITY a "b">]><plist><string>&a;</string></plist>'
+        encoded = b'<?xml version="1.0" encoding="none"?><plist><true/></plist>'
+        self.refused(entity, "line 1: an entity: a")
+        self.refused(encoded, "unknown encoding")
+        self.refused(b"<!-- --><html/>", "line 1: there is no element <html>")
         self.refused(XML[:-9], "no element found")
 
     def test_levels_up_to_the_limit_are_read(self):
         octets = document("<array>" * 512 + "</array>" * 512)
         self.assertEqual(self.converted(octets), self.canonical(b"(" * 512 + b")" * 512))
-        self.refuses(
-            "-: refused 16 TooDeep",
-            "canonicalise",
-            "--from-xml",
-            "-",
-            input=document("<array>" * 513 + "</array>" * 513),
-        )
+        octets = document("<array>" * 513 + "</array>" * 513)
+        self.refuses("-: refused 16 TooDeep", "canonicalise --from-xml -", input=octets)
 
     def test_files_in_their_places(self):
         path = self.put("a", XML)
         path.chmod(0o600)
-        self.refuses("a: refused 21 XmlForm at octet 0 (XML); left as it is", "canonicalise", "a")
+        why = "a: refused 21 XmlForm at octet 0 (XML); left as it is"
+        self.refuses(why, "canonicalise a")
         self.assertEqual(path.read_bytes(), XML)
-        self.prints(b"", "canonicalise", "--from-xml", "a")
+        self.prints(b"", "canonicalise --from-xml a")
         self.assertEqual(self.call([PROGRAM, "check", "a"]).stdout, b"canonical\n")
         self.assertEqual(path.stat().st_mode & 0o777, 0o600)
 

@@ -3,7 +3,6 @@ the commands in it."""
 from __future__ import annotations
 
 import os
-import re
 import shlex
 import shutil
 import stat
@@ -22,26 +21,40 @@ PRINTED = b'{\n  "a" => "b"\n  "b" => "a"\n}\n'
 TWICE = b"{a;a=b;}\n"
 XML = b'<?xml version="1.0"?>\n<plist version="1.0"><dict><key>a</key><real>2.5</real></dict></plist>\n'
 XML_PRINTED = b'{\n  "a" => 2.5\n}\n'
+
+
+def trailer(widths: bytes, *numbers: int) -> bytes:
+    """Returns the trailer of a binary file: the widths of offsets and references, the count of
+    objects, the number of the top one, and the offset of the table."""
+    return bytes(6) + widths + b"".join(number.to_bytes(8, "big") for number in numbers)
+
+
+def binary(*objects, top=0, count=None, table=None) -> bytes:
+    """Returns a binary file of these objects, with references and offsets of one byte."""
+    begins, body = [], b"bplist00"
+    for octets in objects:
+        begins.append(len(body))
+        body += octets
+    count, table = len(objects) if count is None else count, table or len(body)
+    return body + bytes(begins) + trailer(b"\1\1", count, top, table)
+
+
 # A binary file with a UID, as in keyed archives.
-TRAILER = bytes(6) + b"\x01\x01" + bytes(7) + b"\x03" + bytes(15) + b"\x0f"
-ARCHIVE = b"bplist00\xd1\x01\x02Qa\x80\x01\x08\x0b\x0d" + TRAILER
+ARCHIVE = binary(b"\xd1\x01\x02", b"Qa", b"\x80\x01")
 
 
 def found_program() -> str:
     """Returns the absolute path of the program to test."""
-    program = shutil.which(os.environ.get("PLISTCONV") or str(TOP / "plistconv")) or shutil.which(
-        "plistconv"
-    )
-    if program is None:
-        sys.exit("test_tools: there is no plistconv: set PLISTCONV")
-    return os.path.abspath(program)
+    for place in (os.environ.get("PLISTCONV") or str(TOP / "plistconv"), "plistconv"):
+        program = shutil.which(place)
+        if program is not None:
+            return os.path.abspath(program)
+    sys.exit("test_tools: there is no plistconv: set PLISTCONV")
 
 
 PROGRAM = found_program()
 ENVIRONMENT = {
-    **{
-        name: value for name, value in os.environ.items() if not name.startswith(("GIT_", "PYTHON"))
-    },
+    **{it: os.environ[it] for it in os.environ if not it.startswith(("GIT_", "PYTHON"))},
     "PLISTCONV": PROGRAM,
     "PATH": f"{TOOLS}{os.pathsep}{os.environ.get('PATH', os.defpath)}",
     "LC_ALL": "C.UTF-8",
@@ -70,43 +83,54 @@ class Case(unittest.TestCase):
         path.write_bytes(octets)
         return path
 
-    def call(self, words, status=0, **more) -> subprocess.CompletedProcess:
-        """Runs a program in the folder, which must exit with the status."""
-        options: dict[str, Any] = {
-            "input": b"",
-            "stdout": subprocess.PIPE,
-            "cwd": str(self.folder),
-            "env": self.environment,
-            **more,
-        }
-        if "stdin" in options:
-            del options["input"]
-        run = subprocess.run(words, stderr=subprocess.PIPE, check=False, **options)
+    def put_all(self, files: dict) -> None:
+        """Makes files of these names and contents."""
+        for name, octets in files.items():
+            self.put(name, octets)
+
+    def content(self, name: str) -> bytes:
+        """Returns the content of a file."""
+        return (self.folder / name).read_bytes()
+
+    def call(self, words, status=0, cwd="", env=None, **more) -> subprocess.CompletedProcess:
+        """Runs a program in the folder, or in `cwd` there, which must exit with the status. `env`
+        has more variables."""
+        options: dict[str, Any] = {"stdout": subprocess.PIPE, "stderr": subprocess.PIPE, **more}
+        if "stdin" not in more:
+            options.setdefault("input", b"")
+        options.update(cwd=str(self.folder / cwd), env={**self.environment, **(env or {})})
+        run = subprocess.run(words, check=False, **options)
         self.assertEqual(run.returncode, status, (words, run.stdout, run.stderr))
         return run
 
-    def tool(self, name: str, *words, status=0, **more) -> subprocess.CompletedProcess:
-        """Runs a command, which must exit with the status."""
-        return self.call([sys.executable, str(TOOLS / f"plistconv-{name}"), *words], status, **more)
+    def tool(self, command: str, *words, status=0, **more) -> subprocess.CompletedProcess:
+        """Runs a command with the words that its text has, and with more."""
+        name, *first = command.split(" ")
+        path = str(TOOLS / f"plistconv-{name}")
+        return self.call([sys.executable, path, *first, *words], status, **more)
 
-    def prints(self, octets: bytes, name: str, *words, **more) -> None:
+    def says(self, command: str, *words, status=1, **more) -> str:
+        """Runs a command, and returns its messages."""
+        return self.tool(command, *words, status=status, **more).stderr.decode()
+
+    def prints(self, octets: bytes, command: str, *words, **more) -> None:
         """Runs a command, which must print the bytes, and nothing on standard error."""
-        run = self.tool(name, *words, **more)
-        self.assertEqual((run.stdout, run.stderr), (octets, b""), (name, words))
+        run = self.tool(command, *words, **more)
+        self.assertEqual((run.stdout, run.stderr), (octets, b""), (command, words))
 
-    def refuses(self, said: str, name: str, *words, status=1, printed=b"", **more) -> None:
+    def refuses(self, said: str, command: str, *words, status=1, printed=b"", **more) -> None:
         """Runs a command, which must print this message on standard error."""
-        run = self.tool(name, *words, status=status, **more)
-        self.assertIn(said.encode(), run.stderr, (name, words))
-        self.assertEqual(run.stdout, printed, (name, words))
+        run = self.tool(command, *words, status=status, **more)
+        self.assertIn(said.encode(), run.stderr, (command, words))
+        self.assertEqual(run.stdout, printed, (command, words))
 
     def program(self, script: str) -> dict[str, str]:
-        """Returns an environment with this shell script as the program. In it "$PROGRAM" is the
+        """Returns the variable that makes this shell script the program. In it "$PROGRAM" is the
         real one."""
         head = f"#!/bin/sh\nPROGRAM={shlex.quote(PROGRAM)}\n"
         path = self.put("bin/program", f"{head}{script}\n".encode())
         path.chmod(0o755)
-        return {**self.environment, "PLISTCONV": str(path)}
+        return {"PLISTCONV": str(path)}
 
     def patched(self, lines: str, *words, status=0, tool="canonicalise", **more) -> bytes:
         """Runs a command after these lines of Python, and returns its messages."""
@@ -122,11 +146,11 @@ class Case(unittest.TestCase):
         """Returns the paths of everything below the folder."""
         return sorted(str(path.relative_to(self.folder)) for path in self.folder.rglob("*"))
 
-    def git(self, *words, status=0, **more) -> bytes:
-        """Runs git in the folder."""
+    def git(self, command: str, *words, status=0, **more) -> bytes:
+        """Runs git with the words that the text has, and with more."""
         if shutil.which("git") is None:
             self.skipTest("skipped: there is no git")
-        return self.call(["git", *words], status, **more).stdout
+        return self.call(["git", *command.split(" "), *words], status, **more).stdout
 
     def node(self, name: str) -> Path:
         """Makes a device like /dev/null, so that a faulty command does not destroy the real one."""
@@ -145,22 +169,20 @@ class Repository(Case):
 
     def setUp(self):
         super().setUp()
-        self.git("init", "-q", "-b", "main") if self.has_branches() else self.git("init", "-q")
+        self.git("init -q")
+        self.git("symbolic-ref HEAD refs/heads/main")
         for path in TOOLS.glob("plistconv-*"):
             self.assertTrue(os.access(str(path), os.X_OK), path)
         # So that `#!/usr/bin/env python3` is the Python that runs the tests.
-        self.python = self.folder / ".git" / "bin"
-        self.python.mkdir()
-        (self.python / "python3").write_bytes(
-            f'#!/bin/sh\nexec {shlex.quote(sys.executable)} "$@"\n'.encode()
-        )
-        (self.python / "python3").chmod(0o755)
-        self.environment["PATH"] = f"{self.python}{os.pathsep}{self.environment['PATH']}"
+        script = f'#!/bin/sh\nexec {shlex.quote(sys.executable)} "$@"\n'
+        python = self.put(".git/bin/python3", script.encode())
+        python.chmod(0o755)
+        self.environment["PATH"] = f"{python.parent}{os.pathsep}{self.environment['PATH']}"
 
-    def has_branches(self):
-        """Returns whether git has an option for the name of the first branch."""
-        version = re.findall(rb"\d+", self.git("--version"))
-        return [int(number) for number in version[:2]] >= [2, 28]
+    def add(self, files=None) -> None:
+        """Makes files, and stages everything."""
+        self.put_all(files or {})
+        self.git("add -A")
 
     def hook(self):
         """Installs the hook."""
@@ -168,5 +190,5 @@ class Repository(Case):
 
     def commit(self, *words, status=0, env=None):
         """Commits, and returns the messages."""
-        options = {"env": env} if env else {}
-        return self.call(["git", "commit", "-qm", "one", *words], status, **options).stderr.decode()
+        run = self.call(["git", "commit", "-qm", "one", *words], status, env=env)
+        return run.stderr.decode()
