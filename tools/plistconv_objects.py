@@ -93,9 +93,8 @@ class Binary:
         self.offset_width, self.width = trailer[6], trailer[7]
         self.count, self.top, self.table = (number_of(trailer[at : at + 8]) for at in (8, 16, 24))
         if not (1 <= self.offset_width <= 8 and 1 <= self.width <= 8):
-            raise tools.Refused(
-                "its trailer has a width that is not from 1 to 8, so no object is found"
-            )
+            why = "its trailer has a width that is not from 1 to 8, so no object is found"
+            raise tools.Refused(why)
 
     def begin(self, number: int) -> int | None:
         """Returns where an object begins, or `None` if the offset table does not say."""

@@ -134,6 +134,10 @@ class Parser(argparse.ArgumentParser):
         self.options.update(name for name in names if name.startswith("-"))
         return super().add_argument(*names, **about)  # type: ignore[arg-type]
 
+    def add_flag(self, name: str, about: str) -> None:
+        """Adds an option without a value."""
+        self.add_argument(name, action="store_true", help=about)
+
     def print_help(self, file: object = None) -> None:
         """Prints the help, or ends the command if it cannot be written."""
         write(self.format_help().encode())

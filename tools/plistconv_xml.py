@@ -152,9 +152,8 @@ def are_same(first: object, second: object) -> bool:
 def binary(octets: bytes) -> bytes:
     """Returns a binary file with the value of an XML property list. Raises `Fault`."""
     check(octets)
-    sys.setrecursionlimit(
-        max(sys.getrecursionlimit(), 8 * LEVELS)
-    )  # plistlib recurses for each level.
+    # plistlib recurses for each level.
+    sys.setrecursionlimit(max(sys.getrecursionlimit(), 8 * LEVELS))
     try:
         value = plistlib.loads(octets, fmt=plistlib.FMT_XML, dict_type=Table)
         made = plistlib.dumps(value, fmt=plistlib.FMT_BINARY, sort_keys=False)
