@@ -67,7 +67,7 @@ bench: plistconv
 hostile: plistconv
 	python3 bench/hostile.py ./plistconv
 	python3 bench/refusals.py ./plistconv
-	python3 scripts/limits.py ./plistconv --large
+	python3 bench/limits.py ./plistconv --large
 
 growths: plistconv lib
 	python3 bench/growths.py ./plistconv --library libplistconv.a

@@ -12,30 +12,38 @@ def numbers(values, width):
     return b"".join(number(value, width) for value in values)
 
 
+def least(value):
+    """Returns the least width of a number."""
+    return next(width for width in (1, 2, 4, 8) if value < 256**width)
+
+
 def head(kind, count):
     """Returns a marker with its count."""
     if count < 15:
         return bytes([kind | count])
-    size = next(size for size in range(4) if count < 256 ** (1 << size))
-    return bytes([kind | 15, 0x10 | size]) + number(count, 1 << size)
+    width = least(count)
+    return bytes([kind | 15, 0x0F + width.bit_length()]) + number(count, width)
 
 
-def file(objects, places, width):
+def trailer(offset, width, count, table):
+    """Returns the trailer of `count` objects, with offsets of `offset` bytes in a table at the
+    offset `table`, and references of `width` bytes."""
+    return bytes([0] * 6 + [offset, width]) + numbers((count, 0, table), 8)
+
+
+def file(objects, places, width, offset=4):
     """Returns the file of objects that begin at these offsets, with references of `width` bytes."""
     body = b"bplist00" + objects
-    trailer = (
-        bytes([0] * 6 + [4, width]) + number(len(places), 8) + number(0, 8) + number(len(body), 8)
-    )
-    return body + numbers(places, 4) + trailer
+    return body + numbers(places, offset) + trailer(offset, width, len(places), len(body))
 
 
-def joined(objects, width):
+def joined(objects, width, offset=4):
     """Returns the file of objects that follow each other."""
     places, place = [], 8
     for one in objects:
         places.append(place)
         place += len(one)
-    return file(b"".join(objects), places, width)
+    return file(b"".join(objects), places, width, offset)
 
 
 def array(items, width):
@@ -125,9 +133,8 @@ def dictionaries_of(lists, keys, size, value=b"Qx", unreached=()):
     while total < size:
         made.append(each[len(made) % len(each)])
         total += len(made[-1])
-    return joined(
-        [array(range(at + 1, at + 1 + len(made)), width), *keys, value, *made, *unreached], width
-    )
+    first = array(range(at + 1, at + 1 + len(made)), width)
+    return joined([first, *keys, value, *made, *unreached], width)
 
 
 def reordered(count, names, size, unreached=()):
@@ -163,9 +170,8 @@ def lists_of(count, size, value=b"Qx"):
 def three_in_turn(size):
     """Returns dictionaries with three lists of long keys, in turn."""
     keys = [wide_string(size // 4 // 48, place) for place in range(48)]
-    return dictionaries_of(
-        [range(part + 16, part, -1) for part in (0, 16, 32)], keys, size * 15 // 32
-    )
+    lists = [range(part + 16, part, -1) for part in (0, 16, 32)]
+    return dictionaries_of(lists, keys, size * 15 // 32)
 
 
 def overlapping_later(size):
@@ -174,21 +180,11 @@ def overlapping_later(size):
     count, width, often = 16, 3, 40
     first = often + 2
     value, keys = first + count, [wide_string(size // 8 // count, place) for place in range(count)]
-    lists = [
-        [first + (place + turn) % count for place in range(count)] for turn in range(1, often + 1)
-    ]
+    turned = lambda turn: [first + (place + turn) % count for place in range(count)]
     over = range(value + 1, value + 1 + size // 40)
-    made = [dictionary(one, value, width) for one in [*lists, over]]
-    return joined(
-        [
-            array(range(1, often + 2), width),
-            *made,
-            *keys,
-            b"\x09",
-            *overlapping_strings(len(over), size // 2),
-        ],
-        width,
-    )
+    made = [dictionary(one, value, width) for one in [*map(turned, range(1, often + 1)), over]]
+    last = overlapping_strings(len(over), size // 2)
+    return joined([array(range(1, often + 2), width), *made, *keys, b"\x09", *last], width)
 
 
 ASCII, WIDE = 0x50, 0x60
@@ -219,9 +215,8 @@ def agreeing_keys(size):
     chance, made = random.Random(count), size // 12_500
     one = head(0x60, length)
     region = (one + b"\x4e\x00" * ((step - len(one)) // 2)) * count + b"\x4e\x00" * length
-    tables = [
-        dictionary(chance.sample(range(1, count + 1), count), count + 1, width) for _ in range(made)
-    ]
+    lists = (chance.sample(range(1, count + 1), count) for _ in range(made))
+    tables = [dictionary(one, count + 1, width) for one in lists]
     objects = [array(range(count + 2, count + 2 + made), width), region, b"Qx", *tables]
     starts = [8]
     for written in objects:
@@ -237,14 +232,10 @@ def late_dictionary(count, size, key, names):
     dictionary has the keys `names`: 2 is a boolean, those from 3 on are the `count` keys, and the
     largest number is no object."""
     width, at, length = 3, 5, size * 2 // 17 // count
-    lists = [
-        chosen
-        for _ in range(size // (6 * count + 10))
-        for chosen in (range(count), range(count - 1, -1, -1))
-    ]
+    lists = [range(count), range(count - 1, -1, -1)]
     made, total = [], count * length
     while total < size:
-        made.append(dictionary([at + place for place in lists[len(made)]], 3, width))
+        made.append(dictionary([at + place for place in lists[len(made) % 2]], 3, width))
         total += len(made[-1]) + 7
     last = dictionary([4 if name == 2 else at + name - 3 for name in names], 3, width)
     inner = array(range(at + count, at + count + len(made)), width)
@@ -274,31 +265,23 @@ def one_dictionary(size, units_of):
 def tied(place, blocks):
     """Returns blocks of units, each with the same first unit or another by a bit of `place`, and
     the place itself."""
-    start = [
-        unit
-        for at, block in enumerate(blocks)
-        for unit in (block[0] + (place >> at & 1), *block[1:])
-    ]
-    return start + [0x4E00 + place // 256, 0x4E00 + place % 256]
+    units = []
+    for at, block in enumerate(blocks):
+        units += [block[0] + (place >> at & 1), *block[1:]]
+    return units + [0x4E00 + place // 256, 0x4E00 + place % 256]
 
 
 def one_narrow_key(size):
     """Returns ideographs as keys, and one key of ASCII."""
-    return one_dictionary(
-        size,
-        lambda place: [0x61] * 8
-        if place == 0
-        else [0x4E00 + place % 97] * 6 + [0x4E00 + place // 256, 0x4E00 + place % 256],
-    )
+    last = lambda place: [0x4E00 + place // 256, 0x4E00 + place % 256]
+    units = lambda place: [0x4E00 + place % 97] * 6 + last(place) if place else [0x61] * 8
+    return one_dictionary(size, units)
 
 
 def surrogate_keys(size):
     """Returns keys of characters above U+FFFF."""
-    return one_dictionary(
-        size,
-        lambda place: [0xD83D, 0xDE00 + place % 64] * 3
-        + [0xD840 + place // 1024, 0xDC00 + place % 1024],
-    )
+    last = lambda place: [0xD840 + place // 1024, 0xDC00 + place % 1024]
+    return one_dictionary(size, lambda place: [0xD83D, 0xDE00 + place % 64] * 3 + last(place))
 
 
 def quotes(size):

@@ -150,7 +150,7 @@ if [ -x "$program" ]; then
     step 'arguments and streams' 900 scripts/words.sh
     step explanations 900 scripts/explained.sh
     step completions 900 completions/test
-    step 'long input' 900 bash -c 'needs python3 && scripts/limits.py "$PLISTCONV"'
+    step 'long input' 900 bash -c 'needs python3 && python3 bench/limits.py "$PLISTCONV"'
     # Prints its seed, so that differences can be reproduced.
     ended fuzz
     echo "    seed $seed"

@@ -1,6 +1,6 @@
 #!/usr/bin/env python3
-"""limits.py PROGRAM [--large]: checks what is too long for tests. No contract says when memory is
-refused, so a command could report 60 for whatever is longer than the values of the tests.
+"""bench/limits.py PROGRAM [--large]: checks what is too long for tests. No contract says when
+memory is refused, so a command could report 60 for whatever is longer than the values of the tests.
 
 - `lint` refuses a text that exceeds the limit of nodes, of 50 MB or in UTF-16 of 100, though
   another refusal is true of it too.
@@ -18,6 +18,8 @@ import shutil
 import subprocess
 import sys
 import tempfile
+
+from hostile_files import array, dictionary, head, joined, least, number, trailer
 
 NODES = 16_777_216
 UNITS = 1_073_741_824 // 2
@@ -40,28 +42,26 @@ class Runs:
     def __init__(self, program, folder):
         self.program, self.folder, self.wrong = program, folder, 0
 
-    def path(self, name):
-        return os.path.join(self.folder, name)
-
     def put(self, name, octets):
-        with open(self.path(name), "wb") as file:
+        with open(os.path.join(self.folder, name), "wb") as file:
             file.write(octets)
+
+    def content(self, name):
+        with open(os.path.join(self.folder, name), "rb") as file:
+            return file.read()
 
     def expect(self, name, words, status, printed, file=None):
         """Runs the program, which has to print this. With `file` the path `out` has to have
         these bytes then."""
-        run = subprocess.run([self.program, *words], cwd=self.folder, capture_output=True)
+        run = subprocess.run([self.program, *words.split()], cwd=self.folder, capture_output=True)
         if (run.returncode, run.stdout) != (status, printed):
-            self.wrong += 1
-            print(
-                f"{name}: {' '.join(words)[:80]}: status {run.returncode}, {run.stdout[:200]!r}",
-                flush=True,
-            )
-        elif file is not None:
-            with open(self.path("out"), "rb") as out:
-                if out.read() != file:
-                    self.wrong += 1
-                    print(f"{name}: {' '.join(words)[:80]}: another file", flush=True)
+            fault = f"status {run.returncode}, {run.stdout[:200]!r}"
+        elif file is not None and self.content("out") != file:
+            fault = "another file"
+        else:
+            return
+        self.wrong += 1
+        print(f"{name}: {words[:80]}: {fault}", flush=True)
 
 
 def wide(text):
@@ -93,7 +93,7 @@ def keep_limits(runs, limits):
     for name, (make, (form, offset), refusal, place) in limits.items():
         runs.put("text", form(make()))
         said = b"refused %s at octet %d" % (refusal, offset(place)) if refusal else b"OK"
-        runs.expect(name, ["lint", "text"], 2 if refusal else 0, b"text: " + said + b"\n")
+        runs.expect(name, "lint text", 2 if refusal else 0, b"text: " + said + b"\n")
 
 
 # Values, in each of their forms.
@@ -101,49 +101,18 @@ def keep_limits(runs, limits):
 Value = collections.namedtuple("Value", "text file written printed")
 
 
-def spelled(number, width):
-    return number.to_bytes(width, "big")
-
-
-def least(number):
-    return next(width for width in (1, 2, 4, 8) if number < 1 << 8 * width)
-
-
-def head(marker, count):
-    """Returns the marker of an object with its count."""
-    if count < 15:
-        return bytes([marker | count])
-    width = least(count)
-    return bytes([marker | 15, 0x10 + width.bit_length() - 1]) + spelled(count, width)
-
-
 def canonical(objects):
     """Returns the canonical file of these objects."""
-    places, end = [], 8
-    for made in objects:
-        places.append(end)
-        end += len(made)
-    width = least(end)
-    table = b"".join(spelled(place, width) for place in places)
-    trailer = (
-        bytes([0] * 6 + [width, least(len(objects))])
-        + spelled(len(objects), 8)
-        + bytes(8)
-        + spelled(end, 8)
-    )
-    return b"bplist00" + b"".join(objects) + table + trailer
+    return joined(objects, least(len(objects)), least(8 + sum(map(len, objects))))
 
 
 def keys(count):
     """Returns a dictionary of numbered keys with the same value."""
-    names, width = [b"%06d" % key for key in range(count)], least(count + 2)
-    references = (
-        b"".join(spelled(key, width) for key in range(1, count + 1))
-        + spelled(count + 1, width) * count
-    )
+    names = [b"%06d" % key for key in range(count)]
+    first = dictionary(range(1, count + 1), count + 1, least(count + 2))
     return Value(
         b"{" + b"".join(b"%s=v;" % name for name in reversed(names)) + b"}",
-        canonical([head(0xD0, count) + references, *(b"\x56" + name for name in names), b"Qv"]),
+        canonical([first, *(b"\x56" + name for name in names), b"Qv"]),
         b"{\n" + b"".join(b"%s = v;\n" % name for name in names) + b"}\n",
         b"{\n" + b"".join(b'  "%s" => "v"\n' % name for name in names) + b"}\n",
     )
@@ -151,11 +120,11 @@ def keys(count):
 
 def items(count):
     """Returns an array of different strings."""
-    names, width = [b"%07d" % item for item in range(count)], least(count + 1)
-    references = b"".join(spelled(item, width) for item in range(1, count + 1))
+    names = [b"%07d" % item for item in range(count)]
+    first = array(range(1, count + 1), least(count + 1))
     return Value(
         b"(" + b",".join(names) + b")",
-        canonical([head(0xA0, count) + references, *(b"\x57" + name for name in names)]),
+        canonical([first, *(b"\x57" + name for name in names)]),
         b"(\n" + b"".join(b"%s,\n" % name for name in names) + b")\n",
         b"[\n" + b"".join(b'  "%s"\n' % name for name in names) + b"]\n",
     )
@@ -174,10 +143,10 @@ def data(size):
 def strings(size):
     """Returns an array of a string of ASCII and one in UTF-16, of three bytes of text for each."""
     letters, accents = b"a" * size, "é".encode() * size
-    wide = head(0x60, size) + b"\0\xe9" * size
+    units = head(0x60, size) + b"\0\xe9" * size
     return Value(
         b"(" + letters + b',"' + accents + b'")',
-        canonical([b"\xa2\x01\x02", head(0x50, size) + letters, wide]),
+        canonical([b"\xa2\x01\x02", head(0x50, size) + letters, units]),
         b"(\n" + letters + b',\n"' + b"\\U00e9" * size + b'",\n)\n',
         b'[\n  "' + letters + b'"\n  "' + accents + b'"\n]\n',
     )
@@ -185,31 +154,29 @@ def strings(size):
 
 def arrays(levels):
     """Returns arrays that each contain the next one, down to an empty one."""
-    width, indents = least(levels), [b"  " * min(level, 32) for level in range(levels)]
+    outer = [array([level], least(levels)) for level in range(1, levels)]
+    *indents, last = (b"  " * min(level, 32) for level in range(levels))
+    opened = b"".join(indent + b"[\n" for indent in indents)
+    closed = b"".join(indent + b"]\n" for indent in reversed(indents))
     return Value(
         b"(" * levels + b")" * levels,
-        canonical([*(b"\xa1" + spelled(level, width) for level in range(1, levels)), b"\xa0"]),
+        canonical([*outer, b"\xa0"]),
         b"(\n" * levels + b")" + b",\n)" * (levels - 1) + b"\n",
-        b"".join(indent + b"[\n" for indent in indents[:-1])
-        + indents[-1]
-        + b"[]\n"
-        + b"".join(indent + b"]\n" for indent in reversed(indents[:-1])),
+        opened + last + b"[]\n" + closed,
     )
 
 
 def dictionaries(levels):
     """Returns dictionaries that each have the next one for their key `k`, down to an empty one."""
-    width, indents = least(levels + 1), [b"  " * min(level, 32) for level in range(levels)]
-    inner = [b"\xd1" + spelled(1, width) + spelled(level, width) for level in range(2, levels + 1)]
+    inner = [dictionary([1], level, least(levels + 1)) for level in range(2, levels + 1)]
+    *indents, last = (b"  " * min(level, 32) for level in range(levels))
+    opened = b"".join(indent + b'"k" => {\n' for indent in indents[1:])
+    closed = b"".join(indent + b"}\n" for indent in reversed(indents))
     return Value(
         b"{k=" * (levels - 1) + b"{}" + b";}" * (levels - 1),
         canonical([inner[0], b"Qk", *inner[1:], b"\xd0"]),
         b"{\nk = " * (levels - 1) + b"{\n}" + b";\n}" * (levels - 1) + b"\n",
-        b"{\n"
-        + b"".join(indent + b'"k" => {\n' for indent in indents[1:-1])
-        + indents[-1]
-        + b'"k" => {}\n'
-        + b"".join(indent + b"}\n" for indent in reversed(indents[:-1])),
+        b"{\n" + opened + last + b'"k" => {}\n' + closed,
     )
 
 
@@ -219,27 +186,21 @@ def accept(runs, name, value):
     runs.put("wide", wide(value.text))
     runs.put("file", value.file)
     for path in ("text", "wide", "file"):
-        runs.expect(name, ["lint", path], 0, path.encode() + b": OK\n")
-        runs.expect(name, ["convert", "binary1", path, "out"], 0, b"", value.file)
-        runs.expect(name, ["convert", "openstep", path, "out"], 0, b"", value.written)
-        runs.expect(name, ["print", path], 0, value.printed)
-    runs.expect(name, ["same", "text", "file"], 0, b"equal\n")
-    runs.expect(name, ["same", "file", "wide"], 0, b"equal\n")
-    runs.expect(name, ["check", "file"], 0, b"canonical\n")
+        runs.expect(name, f"lint {path}", 0, path.encode() + b": OK\n")
+        runs.expect(name, f"convert binary1 {path} out", 0, b"", value.file)
+        runs.expect(name, f"convert openstep {path} out", 0, b"", value.written)
+        runs.expect(name, f"print {path}", 0, value.printed)
+    runs.expect(name, "same text file", 0, b"equal\n")
+    runs.expect(name, "same file wide", 0, b"equal\n")
+    runs.expect(name, "check file", 0, b"canonical\n")
 
 
 def refuse_all(runs, name, octets, refusal):
     """Has each command refuse the input."""
     runs.put("file", octets)
     runs.put("other", b"a")
-    for words in (
-        ["lint", "file"],
-        ["convert", "binary1", "file", "out"],
-        ["convert", "openstep", "file", "out"],
-        ["print", "file"],
-        ["same", "file", "other"],
-        ["same", "other", "file"],
-    ):
+    converting = "convert binary1 file out", "convert openstep file out"
+    for words in (*converting, "lint file", "print file", "same file other", "same other file"):
         runs.expect(name, words, 2, b"file: refused " + refusal + b"\n")
 
 
@@ -248,11 +209,8 @@ def repeated(count):
     and a file of it."""
     made, width = keys(count), least(count + 2)
     at = 8 + len(head(0xD0, count)) + (count - 1) * width
-    return (
-        made.text[:-1] + made.text[1:10] + b"}",
-        len(made.text) - 1,
-        made.file[:at] + spelled(1, width) + made.file[at + width :],
-    )
+    file = made.file[:at] + number(1, width) + made.file[at + width :]
+    return made.text[:-1] + made.text[1:10] + b"}", len(made.text) - 1, file
 
 
 def refuse_text(runs, name, text, refusal, octet):
@@ -274,9 +232,8 @@ def refuse_long(runs):
 def unused(count):
     """Returns a file of so many objects, all of them one boolean, and the
     canonical file of that."""
-    table = b"\x08" * count
-    trailer = bytes([0] * 6 + [1, 4]) + spelled(count, 8) + bytes(8) + spelled(9, 8)
-    return b"bplist00\x09" + table + trailer, canonical([b"\x09"])
+    file = b"bplist00\x09" + b"\x08" * count + trailer(1, 4, count, 9)
+    return file, canonical([b"\x09"])
 
 
 def read_many(runs, count):
@@ -284,33 +241,25 @@ def read_many(runs, count):
     name, (octets, own) = f"{count:,} objects", unused(count)
     runs.put("file", octets)
     runs.put("own", own)
-    runs.expect(name, ["lint", "file"], 0, b"file: OK\n")
-    runs.expect(name, ["convert", "binary1", "file", "out"], 0, b"", own)
-    runs.expect(
-        name, ["convert", "openstep", "file", "out"], 2, b"file: refused 40 NotInOpenStep\n"
-    )
-    runs.expect(name, ["print", "file"], 0, b"true\n")
-    runs.expect(name, ["same", "file", "own"], 0, b"equal\n")
-    runs.expect(name, ["check", "file"], 1, b"broken C3 at object 1\n")
+    runs.expect(name, "lint file", 0, b"file: OK\n")
+    runs.expect(name, "convert binary1 file out", 0, b"", own)
+    runs.expect(name, "convert openstep file out", 2, b"file: refused 40 NotInOpenStep\n")
+    runs.expect(name, "print file", 0, b"true\n")
+    runs.expect(name, "same file own", 0, b"equal\n")
+    runs.expect(name, "check file", 1, b"broken C3 at object 1\n")
 
 
 def open_paths(runs):
     """Has the program open long paths."""
     runs.put("text", b"a")
     for size in (200, 4_090):
-        path = "./" * ((size - 4) // 2) + "text"
-        runs.expect(f"a path of {size} bytes", ["lint", path], 0, path.encode() + b": OK\n")
-        runs.expect(
-            f"a path of {size} bytes",
-            ["convert", "openstep", path, path[:-4] + "out"],
-            0,
-            b"",
-            b"a\n",
-        )
+        name, folder = f"a path of {size} bytes", "./" * ((size - 4) // 2)
+        runs.expect(name, f"lint {folder}text", 0, folder.encode() + b"text: OK\n")
+        runs.expect(name, f"convert openstep {folder}text {folder}out", 0, b"", b"a\n")
     for size in (300, 5_000):
         path = "n" * size
         refused = path.encode() + b": refused 50 ReadFailed\n"
-        runs.expect(f"a name of {size} bytes", ["lint", path], 4, refused)
+        runs.expect(f"a name of {size} bytes", f"lint {path}", 4, refused)
 
 
 def try_all(runs):
