@@ -9,9 +9,9 @@ A run of the program with a failed allocation must end as with ample memory, or 
 the line of 60, after writing as many bytes as that line says. If it fails before the first byte was
 written, the output file must be unchanged. If several files are checked, one of them may have that
 line, and the others must have their own. A test must pass, or return an allocation error or 60. One
-whose assertion fails was given another answer, whatever numbers the assertion prints;
-bench/growing.c is a test that ends in each of these ways. Tests that make more than 2,000
-allocations, take longer than a second, or cannot tell these endings, are left out by name.
+whose assertion fails was given another answer, whatever numbers the assertion prints. Tests that
+make more than 2,000 allocations, take longer than a second, or cannot tell these endings, are left
+out by name.
 
 With --library each allocation of plistconv_check fails in turn, on the canonical file of the array
 of the strings 000 to 254. The function builds no value, so it makes fewer than 100 allocations. If
@@ -35,12 +35,14 @@ import sys
 import tempfile
 import time
 
-from hostile_files import head, joined, number as octets_of
+from hostile_files import array, dictionary, head, joined, number as octets_of
 from measure import HERE
 
 MOST = 2_000
 BEFORE = b"as it was"
 
+SCALARS = b"\x10\x05", b"\x23" + bytes(8), head(0x40, 20) + bytes(20)
+KEY = head(0x50, 16) + b"k" * 16
 INPUTS = {
     "table.txt": b"{b=a;a=b;}",
     "mixed.txt": b'(a, <0f 61>, {k; "\\Ud800" = (b, {}); }, "/* c */", // c\n \'\xf0\x9f\x98\x80\')',
@@ -51,33 +53,19 @@ INPUTS = {
     "table.bin": joined([b"\xd2\x01\x02\x02\x01", b"Qa", b"Qb"], 1),
     "unsorted.bin": joined([b"\xd2\x01\x02\x02\x01", b"Qb", b"Qa"], 1),
     "shared.bin": joined([b"\xa3\x01\x01\x02", b"\xa2\x02\x03", b"\x61\xd8\x00", b"\x41a"], 1),
-    "scalars.bin": joined(
-        [
-            b"\xa4\x01\x02\x03\x04",
-            b"\x10\x05",
-            b"\x23" + bytes(8),
-            b"\x4f\x10\x14" + bytes(20),
-            b"\xd1\x05\x03",
-            b"\x5f\x10\x10" + b"k" * 16,
-        ],
-        1,
-    ),
+    "scalars.bin": joined([array([1, 2, 3, 4], 1), *SCALARS, dictionary([5], 3, 1), KEY], 1),
     "cycle.bin": joined([b"\xa1\x00"], 1),
     "same-keys.bin": joined([b"\xd2\x01\x02\x03\x03", b"Qa", b"Qa", b"\x09"], 1),
     "short.bin": b"bplist00",
     # More keys than are sorted by their strings alone, whose order is reused; more numbers than fit
     # a set before it reserves space, of which some occur twice; long data.
     "seventy.bin": joined(
-        [
-            head(0xD0, 70) + bytes([*range(70, 0, -1)]) + bytes([71]) * 70,
-            *(b"\x54k%03d" % key for key in range(70)),
-            b"\x09",
-        ],
+        [dictionary(range(70, 0, -1), 71, 1), *(b"\x54k%03d" % key for key in range(70)), b"\x09"],
         1,
     ),
     "numbers.bin": joined(
         [
-            head(0xA0, 6_000) + b"".join(octets_of(1 + place % 5_000, 2) for place in range(6_000)),
+            array([1 + place % 5_000 for place in range(6_000)], 2),
             *(b"\x11" + octets_of(place, 2) for place in range(5_000)),
         ],
         2,
@@ -153,8 +141,8 @@ REFUSED = re.compile(
     re.MULTILINE,
 )
 
-# What bench/growing.c prints if its allocation is refused, and whether that says so.
-GROWING = {
+# What a test may print, and whether that says that memory was refused.
+SAID = {
     "error: AllocError": True,
     "Error: AllocError": True,
     "error: OutOfMemory { sent: 0 }": True,
@@ -183,32 +171,32 @@ class Refusing:
     def run(self, words, octets, number):
         """Returns the status, the output and the content of `out`, then standard error and the
         allocation count. Fails the allocation of this number, or none if it is 0."""
-        with open(self.out, "wb") as file:
-            file.write(BEFORE)
-        if os.path.exists(self.count):
-            os.remove(self.count)
+        # A run that is aborted leaves this count. It got at least to the failed allocation.
+        for path, content in (self.out, BEFORE), (self.count, b"%d" % number):
+            with open(path, "wb") as file:
+                file.write(content)
         more = {"LD_PRELOAD": self.library, "FAIL_AT": str(number), "FAIL_COUNT": self.count}
-        ran = subprocess.run(
-            words, input=octets, capture_output=True, env={**os.environ, **more}, timeout=60
-        )
-        # A run that is aborted writes no count. It got at least to the failed allocation.
-        allocations = number
-        if os.path.exists(self.count):
-            with open(self.count, encoding="ascii") as count:
-                allocations = int(count.read())
-        with open(self.out, "rb") as file:
-            return (ran.returncode, ran.stdout, file.read()), ran.stderr, allocations
+        env = {**os.environ, **more}
+        ran = subprocess.run(words, input=octets, capture_output=True, env=env, timeout=60)
+        with open(self.out, "rb") as out, open(self.count, "rb") as count:
+            return (ran.returncode, ran.stdout, out.read()), ran.stderr, int(count.read())
 
-    def each(self, words, octets, most):
-        """Yields the number, the ending and the standard error of each run in which one allocation
-        fails."""
-        number, allocations = 0, most
+    def each(self, words, octets, allocations, way):
+        """Fails each allocation in turn. Returns how many runs ended in which way, as `way` tells
+        by the ending and standard error, and prints those that ended otherwise."""
+        counts, number, most = collections.Counter(), 0, allocations
         while number < allocations:
             number += 1
             ending, complaint, allocations = self.run(words, octets, number)
             # A run that is aborted does not count the allocations after the refused one.
             allocations = most if ending[0] < 0 else allocations
-            yield number, ending, complaint
+            told = way(ending, complaint)
+            counts[told] += 1
+            if told == "otherwise":
+                run = f"{os.path.basename(words[0])} {words[1:]}, {octets[:80]!r}"
+                said = [it[-200:] for it in (*ending[1:], complaint)]
+                print(f"{run}, allocation {number}: {ending[0]}, {said}", flush=True)
+        return counts
 
 
 def report(name, counts):
@@ -256,9 +244,8 @@ def how_it_ended(words, ending, ample):
         return "as with ample memory"
     if is_wanting(ending, ample, path):
         return "60"
-    number = (
-        wanting_file(ending, ample) if words[1:2] in (["lint"], ["check"]) and len(words) > 3 else 0
-    )
+    is_of_files = words[1:2] in (["lint"], ["check"]) and len(words) > 3
+    number = wanting_file(ending, ample) if is_of_files else 0
     return f"60 for file {number}" if number else "otherwise"
 
 
@@ -274,41 +261,38 @@ def program_runs(program, names):
 
 def texts_to_254(program):
     """Returns the canonical file of the array of the strings 000 to 254."""
-    objects = [head(0xA0, 255) + bytes(range(1, 256)), *(b"\x53%03d" % text for text in range(255))]
+    objects = [array(range(1, 256), 1), *(b"\x53%03d" % text for text in range(255))]
     return subprocess.run([program], input=joined(objects, 1), stdout=subprocess.PIPE).stdout
 
 
 def built(source, library, folder):
-    """Builds a C program of this repository, with the library if there is one, and
-    returns its path."""
+    """Builds a C program of this repository with the library, and returns its path."""
     top, program = os.path.join(HERE, ".."), os.path.join(folder, os.path.basename(source)[:-2])
     words = ["cc", "-std=c99", "-D_POSIX_C_SOURCE=200809L", f"-I{top}/include", f"{top}/{source}"]
-    subprocess.run([*words, *([library] if library else []), "-o", program], check=True)
+    subprocess.run([*words, library, "-o", program], check=True)
     return program
 
 
 def refuse_in_calls(library, refusing):
     """Returns how many runs of the calls of the C library do not end as they must."""
-    program, counts = built("examples/c/calls.c", library, refusing.folder), collections.Counter()
+    program = built("examples/c/calls.c", library, refusing.folder)
     (status, *_), _, allocations = refusing.run([program], b"", 0)
-    statuses = [ending[0] for _, ending, _ in refusing.each([program], b"", allocations)]
-    counts.update(f"with {it}" if it in (0, 5) else "otherwise" for it in statuses)
+    ways = {0: "with 0", 5: "with 5"}
+    way = lambda ending, _: ways.get(ending[0], "otherwise")
+    counts = refusing.each([program], b"", allocations, way)
     return report("the calls of the C library", counts) + (status != 0)
 
 
 def refuse_in_check(ours, library, refusing):
     """Returns how many runs of plistconv_check do not end as they must."""
     program, octets = built("bench/check.c", library, refusing.folder), texts_to_254(ours)
-    wrong, ample = 0, (0, b"canonical\n", BEFORE)
+    ample = 0, b"canonical\n", BEFORE
     ending, _, allocations = refusing.run([program], octets, 100)
     print(f"plistconv_check: {allocations} allocations; with the 100th refused: {ending[:2]}")
-    if ending != ample or not 0 < allocations < 100:
-        wrong += 1
-    for number, ending, _ in refusing.each([program], octets, allocations):
-        if ending not in (ample, (5, b"refused 60\n", BEFORE)):
-            wrong += 1
-            print(f"plistconv_check, allocation {number}: {ending}", flush=True)
-    return wrong
+    ways = {ample: "as with ample memory", (5, b"refused 60\n", BEFORE): "60"}
+    way = lambda ending, _: ways.get(ending, "otherwise")
+    counts = refusing.each([program], octets, allocations, way)
+    return report("plistconv_check", counts) + (ending != ample or not 0 < allocations < 100)
 
 
 def refuse_in_program(program, refusing, names):
@@ -319,38 +303,17 @@ def refuse_in_program(program, refusing, names):
         kind = " ".join(words[1:3] if words[1:2] == ["convert"] else words[1:2]) or "no words"
         if kind in ("lint", "check") and len(words) > 3:
             kind += " of several files"
-        for number, ending, complaint in refusing.each(words, octets, allocations):
-            told = how_it_ended(words, ending, ample)
-            endings[kind][told] += 1
-            if told == "otherwise":
-                outputs = [it[-200:] for it in (*ending[1:], complaint)]
-                print(
-                    f"{words[1:]}, {octets[:80]!r}, allocation {number}: {ending[0]}, {outputs}",
-                    flush=True,
-                )
+        way = lambda ending, _: how_it_ended(words, ending, ample)
+        endings[kind] += refusing.each(words, octets, allocations, way)
     return sum(report(kind, counts) for kind, counts in endings.items())
 
 
-def ending_of_test(ample, ending, complaint):
+def way_of_test(ample, ending, complaint):
     """Returns how a run of a test ended whose allocation was refused."""
     if ending[:2] == ample[:2]:
         return "as with ample memory"
-    return (
-        "with an allocation error or 60" if REFUSED.search(ending[1] + complaint) else "otherwise"
-    )
-
-
-def refuse_in_growing(refusing):
-    """Returns how many endings of a test are taken for another one."""
-    program, wrong = built("bench/growing.c", None, refusing.folder), 0
-    for said, is_refusal in GROWING.items():
-        ample, *_ = refusing.run([program, said], b"", 0)
-        ending, complaint, _ = refusing.run([program, said], b"", 1)
-        told = ending_of_test(ample, ending, complaint)
-        if told != ("with an allocation error or 60" if is_refusal else "otherwise"):
-            wrong += 1
-            print(f"a test that prints {said!r} ends {told}", flush=True)
-    return wrong
+    is_refused = REFUSED.search(ending[1] + complaint)
+    return "with an allocation error or 60" if is_refused else "otherwise"
 
 
 def tests_of(crate):
@@ -385,12 +348,8 @@ def refuse_in_tests(crate, refusing, only=None):
             is_needed = refusing.run(words, b"", 100)[0][:2] != ample[:2]
             if allocations <= 255 or not is_needed:
                 wrong.append(f"{name}: {allocations} allocations, and the 100th: {is_needed}")
-        for number, ending, complaint in refusing.each(words, b"", allocations):
-            told = ending_of_test(ample, ending, complaint)
-            counts[told] += 1
-            if told == "otherwise":
-                said = (ending[1] + complaint)[-200:]
-                print(f"{crate} {name}, allocation {number}: {ending[0]}, {said!r}", flush=True)
+        way = lambda *ending: way_of_test(ample, *ending)
+        counts += refusing.each(words, b"", allocations, way)
     if left_out:
         print(f"tests of {crate} left out: {', '.join(left_out)}", flush=True)
     for line in wrong:
@@ -419,7 +378,9 @@ def main():
         for name, octets in INPUTS.items():
             with open(name, "wb") as file:
                 file.write(octets)
-        wrong = refuse_in_growing(refusing) + refuse_in_program(program, refusing, names)
+        mistaken = [it for it in SAID if bool(REFUSED.search(it.encode())) != SAID[it]]
+        print("".join(f"taken for the other ending: {it!r}\n" for it in mistaken), end="")
+        wrong = len(mistaken) + refuse_in_program(program, refusing, names)
         if words.library:
             wrong += refuse_in_check(program, words.library, refusing)
             wrong += refuse_in_calls(words.library, refusing)
