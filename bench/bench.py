@@ -33,7 +33,7 @@ import tempfile
 import files
 import peers
 import shapes
-from measure import HERE, MOST, Measure, instructions
+from measure import HERE, MOST, Measure, heads, instructions, least, row
 
 OURS, BACK, OTHER = "plistconv", "plistconv, to a text", "the other"
 SCALES = (1 / 16, 1 / 4, 1)
@@ -73,7 +73,7 @@ def best(runs):
     answer of `check`)."""
     if any(run.status > 1 for run in runs):
         return None
-    return min(run.processor for run in runs), max(run.octets for run in runs)
+    return least(runs)
 
 
 def measured(measure, programs, source, target, count):
@@ -84,24 +84,20 @@ def measured(measure, programs, source, target, count):
             # A run that takes seconds is not repeated, nor is one that failed.
             if runs[name] and (runs[name][0].status > 1 or runs[name][0].processor > 5):
                 continue
-            path = target(OURS) if name == BACK else source
             into = [target(name)] if "convert" in programs[OURS] else []
-            runs[name].append(
-                measure.run([*words, path, *into], subprocess.DEVNULL, subprocess.DEVNULL)
-            )
+            words = [*words, target(OURS) if name == BACK else source, *into]
+            runs[name].append(measure.run(words, subprocess.DEVNULL, subprocess.DEVNULL))
     return {name: best(found) for name, found in runs.items()}
 
 
-def row(name, octets, figures):
+def rows(name, octets, figures):
     """Prints a row for each program."""
     ours = figures[OURS][0]
     for program, found in figures.items():
         if found is not None:
-            print(
-                f"| {name} | {octets:,} | {program} | {found[0]:.3f} | {ours / found[0]:.2f} "
-                f"| {found[1] / 1e6:.1f} | {found[1] / octets:.1f} |",
-                flush=True,
-            )
+            time = f"{found[0]:.3f}", f"{ours / found[0]:.2f}"
+            memory = f"{found[1] / 1e6:.1f}", f"{found[1] / octets:.1f}"
+            row(name, f"{octets:,}", program, *time, *memory)
 
 
 def says_the_same(measure, program, source, written):
@@ -125,7 +121,7 @@ def one(measure, program, programs, made, name, scale, count):
             figures[other] = None
         if os.path.exists(target):
             os.remove(target)
-    row(name, octets, figures)
+    rows(name, octets, figures)
     return octets, figures, wrong
 
 
@@ -215,8 +211,7 @@ def main():
     scales = scales[-1:] if words.other else scales
     with tempfile.TemporaryDirectory() as folder:
         measure, made, programs = Measure(folder), Files(folder), kinds(words, folder)
-        print("| file | octets | program | seconds | ours / its | MB | memory / input |")
-        print("|---|---|---|---|---|---|---|")
+        heads("file | octets | program | seconds | ours / its | MB | memory / input")
         for name, those in programs.items():
             for scale in scales:
                 *found, more = one(measure, program, those, made, name, scale, words.runs)
@@ -235,8 +230,8 @@ def main():
 def counted(programs, made, figures):
     """Prints how many instructions plistconv takes, and the other. Returns those of plistconv."""
     counts = {}
-    print("\n| file | octets | program | instructions, millions | for each octet | ours / its |")
-    print("|---|---|---|---|---|---|")
+    print()
+    heads("file | octets | program | instructions, millions | for each octet | ours / its")
     for (name, scale), (octets, _) in figures.items():
         source, ours = made.path(name, scale), None
         for program, words in programs[name].items():
@@ -246,11 +241,8 @@ def counted(programs, made, figures):
                 ours = ours or count
                 if program == OURS:
                     counts[name, scale] = count
-                print(
-                    f"| {name} | {octets:,} | {program} | {count / 1e6:.1f} | {count / octets:.1f} "
-                    f"| {ours / count:.3f} |",
-                    flush=True,
-                )
+                each = f"{count / 1e6:.1f}", f"{count / octets:.1f}", f"{ours / count:.3f}"
+                row(name, f"{octets:,}", program, *each)
     return counts
 
 

@@ -20,7 +20,7 @@ import tempfile
 
 import files
 from hostile_files import head, joined
-from measure import Measure
+from measure import Measure, heads, least, row
 
 CHECKED, PRINTED = ("mixed", "keys", "numbers"), ("mixed",)
 REFERENCES = {f"{count:,} references": count for count in (1_000_000, 16_777_215)}
@@ -45,7 +45,7 @@ def write_source(name, path):
         into.write(joined([head(0xA0, count) + b"\x01" * count, b"\x09"], 1))
 
 
-def least(measure, commands):
+def in_turns(measure, commands):
     """Returns the least seconds and the greatest size of each command, which run in turns. The
     output of each goes to the file `out` of its words, or nowhere."""
     turns = []
@@ -56,36 +56,32 @@ def least(measure, commands):
                 turns[-1].append(measure.run(words, into=into))
             if turns[-1][-1].status:
                 sys.exit(f"{' '.join(words)} ends with {turns[-1][-1].status}")
-    columns = dict(zip(commands, zip(*turns)))
-    seconds = {name: min(run.processor for run in runs) for name, runs in columns.items()}
-    return seconds, {name: max(run.octets for run in runs) for name, runs in columns.items()}
+    seconds, sizes = zip(*map(least, zip(*turns)))
+    return dict(zip(commands, seconds)), dict(zip(commands, sizes))
 
 
 def of_files(program, measure):
     """Prints the row of each file."""
     beside, names = [], ("check", "convert", "same", "lint", "print", "write")
-    print(f"| file | bytes | printed | {', s | '.join(names)}, s | lint, MiB | print, MiB |")
-    print("|---" * (len(names) + 5) + "|")
+    heads(f"file | bytes | printed | {', s | '.join(names)}, s | lint, MiB | print, MiB")
     for name in [*files.BINARY, *REFERENCES]:
         write_source(name, "source")
         measure.run([program, "convert", "binary1", "source", "file"])
-        words = {
-            "check": ["check", "file"],
-            "convert": ["convert", "binary1", "file", "out"],
-            "same": ["same", "file", "file"],
-            "lint": ["lint", "file"],
-            "print": ["print", "file"],
-        }
-        commands = {it: ([program, *words[it]], "printed" * (it == "print")) for it in words}
-        commands["write"] = [shutil.which("cat"), "printed"], "written"
-        time, memory = least(measure, commands)
-        size = os.path.getsize("file")
-        print(
-            f"| {name} | {size:,} | {os.path.getsize('printed'):,} | "
-            + " | ".join(f"{time[it]:.3f}" for it in names)
-            + f" | {memory['lint'] / MEBIBYTE:.1f} | {memory['print'] / MEBIBYTE:.1f} |",
-            flush=True,
+        words = (
+            "check file",
+            "convert binary1 file out",
+            "same file file",
+            "lint file",
+            "print file",
         )
+        commands = {it.split()[0]: ([program, *it.split()], None) for it in words}
+        commands["print"] = commands["print"][0], "printed"
+        commands["write"] = [shutil.which("cat"), "printed"], "written"
+        time, memory = in_turns(measure, commands)
+        size = os.path.getsize("file")
+        sizes = (f"{os.path.getsize(it):,}" for it in ("file", "printed"))
+        mebibytes = (f"{memory[it] / MEBIBYTE:.1f}" for it in ("lint", "print"))
+        row(name, *sizes, *(f"{time[it]:.3f}" for it in names), *mebibytes)
         if name in CHECKED:
             hold(time["check"], 0.6 * time["convert"], f"{name}: seconds of check")
             hold(time["same"], 1.3 * time["lint"], f"{name}: seconds of same")
@@ -98,8 +94,8 @@ def of_files(program, measure):
 
 def of_many(program, measure):
     """Prints the row of `lint` and of `check`."""
-    print("\n| command | one call, s | calls, s | memory of several, MB | of the largest, MB |")
-    print("|---" * 5 + "|")
+    print()
+    heads("command | one call, s | calls, s | memory of several, MB | of the largest, MB")
     files.make("mixed", 1, "source")
     measure.run([program, "convert", "binary1", "source", "large"])
     names = [f"file{number}" for number in range(COUNT)]
@@ -108,20 +104,16 @@ def of_many(program, measure):
             source.write(b"{ name = Ada; langs = (en, fr); }")
         measure.run([program, "convert", "binary1", "source", name])
     for word in ("lint", "check"):
-        once = min(
-            (measure.run([program, word, *names]) for _ in range(5)), key=lambda it: it.seconds
-        )
+        runs = [measure.run([program, word, *names]) for _ in range(5)]
+        once = min(runs, key=lambda run: run.seconds)
         singles = [measure.run([program, word, name]) for name in names]
         calls = sum(run.seconds for run in singles)
         path = "" if word == "lint" else "{}: "
         lines = [path.format(name) + run.printed for name, run in zip(names, singles)]
         mixed = measure.run([program, word, *names[:100], "large", *names[100:]])
         alone = measure.run([program, word, "large"])
-        print(
-            f"| {word} | {once.seconds:.3f} | {calls:.3f} | {mixed.octets / 1e6:.1f} "
-            f"| {alone.octets / 1e6:.1f} |",
-            flush=True,
-        )
+        megabytes = (f"{run.octets / 1e6:.1f}" for run in (mixed, alone))
+        row(word, f"{once.seconds:.3f}", f"{calls:.3f}", *megabytes)
         is_wrong = once.status or mixed.status or once.printed != "\n".join(lines)
         hold(is_wrong, 0, f"{word}: lines or statuses that differ")
         hold(once.seconds, 0.1 * calls, f"{word}: seconds of one call")

@@ -43,13 +43,10 @@ def chinese(scale):
     chance = random.Random(11)
 
     def ideographs(least, most):
-        return "".join(
-            chr(chance.randrange(0x4E00, 0x9FA0)) for _ in range(chance.randint(least, most))
-        )
+        return shapes.chinese(chance, chance.randint(least, most))
 
-    return {
-        f"{ideographs(4, 12)}{number}": ideographs(5, 30) for number in range(int(80_000 * scale))
-    }
+    count = int(80_000 * scale)
+    return {f"{ideographs(4, 12)}{number}": ideographs(5, 30) for number in range(count)}
 
 
 def cyrillic(scale):

@@ -28,7 +28,7 @@ import tempfile
 
 import collisions
 import hostile_files as files
-from measure import HERE, Measure
+from measure import HERE, Measure, heads, row
 
 SIZES = (500_000, 1_000_000)
 MOST_SECONDS, MOST_GROWTH, LEAST_SECONDS = 0.5, 1.5, 0.02
@@ -36,33 +36,33 @@ MOST_NANOSECONDS = 25
 
 # How a file is made, the beginning of the answer of `lint`, whether its value repeats long strings,
 # and the commands that refuse it though it is accepted.
-Row = collections.namedtuple("Row", "make answer repeats refusers", defaults=("OK", False, ()))
+File = collections.namedtuple("File", "make answer repeats refusers", defaults=("OK", False, ()))
 
 
 def rows(*makers, **more):
-    return {make.__name__.replace("_", " "): Row(make, **more) for make in makers}
+    return {make.__name__.replace("_", " "): File(make, **more) for make in makers}
 
 
 def late(names, count=20, key=files.wide_key, **more):
-    return Row(lambda size: files.late_dictionary(count, size, key, names), **more)
+    return File(lambda size: files.late_dictionary(count, size, key, names), **more)
 
 
 def alike(forms, overlapping):
-    return Row(lambda size: files.alike_keys(size, forms, overlapping), repeats=True)
+    return File(lambda size: files.alike_keys(size, forms, overlapping), repeats=True)
 
 
 def tied(*blocks):
     """Returns a row of keys in few groups, whose next units are equal each time that they are
     compared: eight of 8 bits, or four of 16 bits."""
-    return Row(lambda size: files.one_dictionary(size, lambda place: files.tied(place, blocks)))
+    return File(lambda size: files.one_dictionary(size, lambda place: files.tied(place, blocks)))
 
 
 def repeating(make):
-    return Row(make, repeats=True)
+    return File(make, repeats=True)
 
 
 ASCII, WIDE, NARROW_UNITS, WIDE_UNITS = files.ASCII, files.WIDE, [0x61] * 8, [0x4E00] * 4
-ROWS = {
+FILES = {
     **rows(
         files.shared_keys,
         files.overlapping_keys,
@@ -171,9 +171,8 @@ class Trial:
 
     def counted(self, command):
         """Returns the figure of a command whose output is measured too."""
-        run, length = self.measure.count(
-            [self.program, *words_of(command, self.path, "/dev/stdout")]
-        )
+        words = [self.program, *words_of(command, self.path, "/dev/stdout")]
+        run, length = self.measure.count(words)
         return Figure(self.size(command), run.processor, run.status, length)
 
     def figure(self, command, runs):
@@ -184,11 +183,11 @@ class Trial:
         return os.path.getsize(self.path + " canonical" * ("CANONICAL" in COMMANDS[command]))
 
 
-def statuses(command, row):
+def statuses(command, file):
     """Returns the statuses with which a command may end."""
-    if command in row.refusers:
+    if command in file.refusers:
         return (2,)
-    ends = (2,) if row.answer.startswith("refused") else (0,)
+    ends = (2,) if file.answer.startswith("refused") else (0,)
     return (1, *ends) if command == "check" else ends
 
 
@@ -196,16 +195,15 @@ def compared(half, whole):
     """Returns the cell of a command, and the limits that it misses."""
     if whole.length is not None:
         each = [figure.seconds / max(figure.length, 1) * 1e9 for figure in (half, whole)]
-        growth = each[1] / each[0]
-        missed = [f"{each[1]:.1f} ns for each byte written"] * (each[1] > MOST_NANOSECONDS)
-        return f"{each[1]:.1f} ns ×{growth:.1f}", missed + [f"growth {growth:.2f}"] * (
-            growth > MOST_GROWTH
-        )
-    longer = max(whole.seconds, LEAST_SECONDS) / max(half.seconds, LEAST_SECONDS)
-    growth = longer / (whole.size / half.size)
-    missed = [f"more than {MOST_SECONDS} s"] * (whole.seconds > MOST_SECONDS)
-    shown = f" ×{growth:.1f}" if whole.seconds > LEAST_SECONDS else ""
-    return f"{whole.seconds:.3f}{shown}", missed + [f"growth {growth:.2f}"] * (growth > MOST_GROWTH)
+        growth, shown = each[1] / each[0], f"{each[1]:.1f} ns"
+        missed = [f"{shown} for each byte written"] * (each[1] > MOST_NANOSECONDS)
+    else:
+        longer = max(whole.seconds, LEAST_SECONDS) / max(half.seconds, LEAST_SECONDS)
+        growth, shown = longer / (whole.size / half.size), f"{whole.seconds:.3f}"
+        missed = [f"more than {MOST_SECONDS} s"] * (whole.seconds > MOST_SECONDS)
+    is_long = whole.length is not None or whole.seconds > LEAST_SECONDS
+    missed += [f"growth {growth:.2f}"] * (growth > MOST_GROWTH)
+    return shown + f" ×{growth:.1f}" * is_long, missed
 
 
 def figures(trials, command, repeats):
@@ -221,17 +219,17 @@ def figures(trials, command, repeats):
     return found
 
 
-def of_row(name, row, trials):
+def of_file(name, file, trials):
     """Prints the row of a file, and returns a line for each limit that is missed."""
     cells, faults = dict.fromkeys(COMMANDS, ""), []
     size, answer = trials[1].size("lint"), trials[1].answer
-    if not all(trial.answer.startswith(row.answer) for trial in trials):
-        faults.append(f"{name}: {trials[0].answer}, {answer}, not {row.answer}")
+    if not all(trial.answer.startswith(file.answer) for trial in trials):
+        faults.append(f"{name}: {trials[0].answer}, {answer}, not {file.answer}")
     accepted = all(trial.answer == "OK" for trial in trials)
     for command in (it for it in COMMANDS if accepted or "CANONICAL" not in COMMANDS[it]):
-        half, whole = figures(trials, command, row.repeats)
+        half, whole = figures(trials, command, file.repeats)
         cell, missed = compared(half, whole)
-        if whole.status not in statuses(command, row):
+        if whole.status not in statuses(command, file):
             missed.append(f"status {whole.status}")
         cells[command] = cell + " missed" * bool(missed)
         faults += [
@@ -239,7 +237,7 @@ def of_row(name, row, trials):
             f"{whole.seconds:.3f} s of {whole.size:,}; written: {half.length}, {whole.length})"
             for one in missed
         ]
-    print(f"| {name} | {size:,} | {answer} | {' | '.join(cells.values())} |", flush=True)
+    row(name, f"{size:,}", answer, *cells.values())
     return faults
 
 
@@ -248,18 +246,17 @@ def main():
     parser.add_argument("program", nargs="?", default="./plistconv")
     parser.add_argument("--only", default="", help="names of files, with commas between")
     arguments = parser.parse_args()
-    names = arguments.only.split(",") if arguments.only else [*ROWS]
-    if unknown := set(names).difference(ROWS):
+    names = arguments.only.split(",") if arguments.only else [*FILES]
+    if unknown := set(names).difference(FILES):
         sys.exit(f"no such file: {', '.join(unknown)}")
-    print(f"| file | bytes | answer | {' | '.join(COMMANDS)} |")
-    print("|---|---|---|" + "---|" * len(COMMANDS))
+    heads(f"file | bytes | answer | {' | '.join(COMMANDS)}")
     faults = []
     with tempfile.TemporaryDirectory() as folder:
         under = os.path.abspath(arguments.program), Measure(folder), without_random(folder)
         for name in names:
             paths = [(size, os.path.join(folder, str(size))) for size in SIZES]
-            trials = [Trial(*under, path, ROWS[name].make(size)) for size, path in paths]
-            faults += of_row(name, ROWS[name], trials)
+            trials = [Trial(*under, path, FILES[name].make(size)) for size, path in paths]
+            faults += of_file(name, FILES[name], trials)
     print("", *(f"missed: {fault}" for fault in faults), sep="\n")
     print(f"{len(faults)} limits are missed.")
     return 1 if faults else 0

@@ -13,14 +13,28 @@ MOST = 60
 Run = collections.namedtuple("Run", "status printed seconds processor octets")
 
 
+def least(runs):
+    """Returns the least processor time of the runs, and the greatest size."""
+    return min(run.processor for run in runs), max(run.octets for run in runs)
+
+
+def row(*cells):
+    """Prints a row of a table."""
+    print(f"| {' | '.join(map(str, cells))} |", flush=True)
+
+
+def heads(names):
+    """Prints the heads of a table, with bars between them."""
+    print(f"| {names} |\n{'|---' * len(names.split(' | '))}|")
+
+
 class Measure:
     """Runs programs by bench/measure.c, which is built with cc."""
 
     def __init__(self, folder):
         self.program, self.file = os.path.join(folder, "measure"), os.path.join(folder, "measured")
-        subprocess.run(
-            ["cc", "-O1", "-o", self.program, os.path.join(HERE, "measure.c")], check=True
-        )
+        words = ["cc", "-O1", "-o", self.program, os.path.join(HERE, "measure.c")]
+        subprocess.run(words, check=True)
 
     def run(self, words, errors=None, into=subprocess.PIPE, source=None):
         """Returns the status, the output unless it goes to a file, the elapsed and the
@@ -28,9 +42,8 @@ class Measure:
         `source`, if one is given."""
         words = [self.program, self.file, str(MOST), *words]
         with open(source or os.devnull, "rb") as given:
-            ran = subprocess.run(
-                words, stdin=given if source else None, stdout=into, stderr=errors, check=False
-            )
+            files = {"stdin": given if source else None, "stdout": into, "stderr": errors}
+            ran = subprocess.run(words, **files, check=False)
         with open(self.file, encoding="ascii") as measured:
             seconds, processor, size = measured.read().split()
         printed = (ran.stdout or b"").decode().strip()
@@ -39,9 +52,8 @@ class Measure:
     def count(self, words, source=None):
         """Returns the run and the number of bytes that it writes to standard output,
         which are not kept."""
-        with subprocess.Popen(
-            ["wc", "-c"], stdin=subprocess.PIPE, stdout=subprocess.PIPE
-        ) as counter:
+        pipe = subprocess.PIPE
+        with subprocess.Popen(["wc", "-c"], stdin=pipe, stdout=pipe) as counter:
             run = self.run(words, into=counter.stdin, source=source)
             return run, int(counter.communicate()[0])
 

@@ -25,9 +25,8 @@ def picture(rows):
             axes = figure.add_subplot(2 * bands, ACROSS, panel, title=name)
             axes.set(ylabel="" if at % ACROSS else kind, xlabel="bytes" if down else "")
             for number, program in enumerate(programs):
-                found = sorted(
-                    (row[2], max(row[place], 1e-3)) for row in rows if row[:2] == [name, program]
-                )
+                own = (row for row in rows if row[:2] == [name, program])
+                found = sorted((row[2], max(row[place], 1e-3)) for row in own)
                 axes.loglog(*zip(*found or [(NONE, NONE)]), ".-", color=f"C{number}", label=program)
             every = [max(row[place], 1e-3) for row in rows]
             axes.set_ylim(min(every) / 2, max(every) * 2)

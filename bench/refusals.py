@@ -23,8 +23,8 @@ import sys
 import tempfile
 
 from hostile import words_of, write
-from hostile_files import file, head, joined, lists_of, number
-from measure import Measure, instructions
+from hostile_files import array, dictionary, head, joined, lists_of, number, trailer
+from measure import Measure, heads, instructions, least, row
 
 MIB = 1 << 20
 
@@ -34,27 +34,23 @@ MIB = 1 << 20
 
 def arrays_named_twice(levels, last=b"\xa0"):
     """Returns arrays that each contain the next one twice, down to an empty one."""
-    return joined([b"\xa2" + bytes([n, n]) for n in range(1, levels)] + [last], 1)
+    return joined([*(array((n, n), 1) for n in range(1, levels)), last], 1)
 
 
 def dictionaries_named_twice(levels):
     """Returns dictionaries that each have the next one for two keys, down to an empty one."""
-    keys = bytes([levels, levels + 1])
-    return joined(
-        [b"\xd2" + keys + bytes([n, n]) for n in range(1, levels)] + [b"\xd0", b"Qa", b"Qb"], 1
-    )
+    outer = [dictionary((levels, levels + 1), n, 1) for n in range(1, levels)]
+    return joined([*outer, b"\xd0", b"Qa", b"Qb"], 1)
 
 
 def chain(count):
     """Returns arrays that each contain the next one, down to an empty one."""
-    body = b"".join(b"\xa1" + number(n, 3) for n in range(1, count)) + b"\xa0"
-    return file(body, range(8, 8 + 4 * count, 4), 3)
+    return joined([*(array((n,), 3) for n in range(1, count)), b"\xa0"], 3)
 
 
 def shared_array(count):
     """Returns an array that contains another one many times, which contains a boolean as often."""
-    references = lambda place: head(0xA0, count) + bytes([place]) * count
-    return joined([references(1), references(2), b"\x09"], 1)
+    return joined([array([1] * count, 1), array([2] * count, 1), b"\x09"], 1)
 
 
 def counted(marker):
@@ -70,7 +66,7 @@ def too_many_objects(size):
 def heavy_data(size):
     """Returns an array that contains data once more than the limit allows."""
     count = 2**30 // size + 1
-    return joined([head(0xA0, count) + b"\x01" * count, head(0x40, size) + bytes(size)], 1)
+    return joined([array([1] * count, 1), head(0x40, size) + bytes(size)], 1)
 
 
 QUARTERS = (250_000, 500_000, 1_000_000)
@@ -128,10 +124,8 @@ def accented_keys(count):
 
 def shared_dictionaries(levels):
     """Returns dictionaries that each have the next one for two long keys, down to an empty one."""
-    made = [
-        b"\xd2" + bytes([levels + 2 * n, levels + 2 * n + 1, n + 1, n + 1])
-        for n in range(levels - 1)
-    ]
+    names = ((levels + 2 * n, levels + 2 * n + 1) for n in range(levels - 1))
+    made = [dictionary(pair, n, 1) for n, pair in enumerate(names, 1)]
     keys = [head(0x50, 105) + b"%0105d" % n for n in range(2 * levels - 2)]
     return joined([*made, b"\xd0", *keys], 1)
 
@@ -139,14 +133,13 @@ def shared_dictionaries(levels):
 def narrow_offsets(size):
     """Returns a file with an offset of one byte for each of its many objects, whose
     first names the last."""
-    references = number(1, 4) * 20 + number(size - 1, 4) * 10
-    body = b"bplist00" + head(0xA0, 30) + references
+    body = b"bplist00" + array([1] * 20 + [size - 1] * 10, 4)
     text = len(body)
     body += head(0x50, 60) + b"a" * 60
     boolean = len(body)
     body += b"\x09"
-    trailer = bytes([0] * 6 + [1, 4]) + number(size, 8) + number(0, 8) + number(len(body), 8)
-    return body + bytes([8, text]) + bytes([boolean]) * (size - 2) + trailer
+    places = bytes([8, text]) + bytes([boolean]) * (size - 2)
+    return body + places + trailer(1, 4, size, len(body))
 
 
 def fan(count, item):
@@ -200,9 +193,8 @@ def make(name, size, path):
 
 
 def made(name, size, path):
-    subprocess.run(
-        [sys.executable, os.path.abspath(__file__), "--make", name, str(size), path], check=True
-    )
+    words = [sys.executable, os.path.abspath(__file__), "--make", name, str(size), path]
+    subprocess.run(words, check=True)
     return os.path.getsize(path)
 
 
@@ -214,49 +206,38 @@ def refused(measure, program, source):
     """Prints the rows of refused inputs, and returns how many fail."""
     wrong, empty = 0, instructions([program, "--version"])
     words = [program, "convert", "binary1", source, source + " out"]
-    print(
-        "| refused | bytes | answer | ms | MiB | instructions for each byte, of the first size's |"
-    )
-    print("|---|---|---|---|---|---|")
+    heads("refused | bytes | answer | ms | MiB | instructions for each byte, of the first size's")
     for name, (_, sizes, answer) in REFUSED.items():
         first = None
         for parameter in sizes:
             size = made(name, parameter, source)
             runs = [measure.run(words) for _ in range(3)]
             line = runs[0].printed.removeprefix(source + ": refused ")
-            ms = min(run.processor for run in runs) * 1000
-            used = max(run.octets for run in runs) / MIB
+            ms, used = least(runs)[0] * 1000, least(runs)[1] / MIB
             each = 1 if empty is None else max(instructions(words) - empty, 1) / size
             first = first or each
             good = runs[0].status == 2 and line.startswith(answer) and used < 16
             good = good and (size > 1000 or ms < 10) and each < 1.2 * first
             wrong += not good
-            print(
-                f"| {name} | {size:,} | {line} | {ms:.1f} | {used:.1f} | {each / first:.2f} "
-                f"|{cross(good)}",
-                flush=True,
-            )
+            growth = f"{each / first:.2f}{cross(good)}"
+            row(name, f"{size:,}", line, f"{ms:.1f}", f"{used:.1f}", growth)
     return wrong
 
 
 def memory(measure, program, source):
     """Prints the rows of memory, and returns how many cells fail."""
     wrong = 0
-    print(
-        f"\n| memory for each byte, or MB / at most | bytes | {' | '.join(MEASURED)} | longest, s |"
-    )
-    print("|---" * (len(MEASURED) + 3) + "|")
-    for name, row in MEMORY.items():
+    print()
+    heads(f"memory for each byte, or MB / at most | bytes | {' | '.join(MEASURED)} | longest, s")
+    for name, wanted in MEMORY.items():
         size, cells, longest = made(name, 0, source), [], 0
-        for command in MEASURED if row.answer == "" else MEASURED[:-1]:
+        for command in MEASURED if wanted.answer == "" else MEASURED[:-1]:
             target = source + " canonical" if command == "binary1" else os.devnull
-            words = words_of(command, source, target)
-            answer = row.openstep or row.answer if command == "openstep" else row.answer
+            words = [program, *words_of(command, source, target)]
+            answer = wanted.openstep or wanted.answer if command == "openstep" else wanted.answer
             is_long = command == "print" and not answer
-            run = measure.run(
-                [program, *words], into=subprocess.DEVNULL if is_long else subprocess.PIPE
-            )
-            unit, most = size * (1 + (command == "same")), row.most
+            run = measure.run(words, into=subprocess.DEVNULL if is_long else subprocess.PIPE)
+            unit, most = size * (1 + (command == "same")), wanted.most
             if isinstance(most, dict):
                 unit, most = 1e6, most.get(command, MOST_MB)
             good = run.status == (2 if answer else 0) and run.octets <= most * unit
@@ -265,7 +246,7 @@ def memory(measure, program, source):
             cells.append(f"{run.octets / unit:.1f} / {most}{cross(good)}")
             longest = max(longest, run.processor)
         cells += [""] * (len(MEASURED) - len(cells))
-        print(f"| {name} | {size:,} | {' | '.join(cells)} | {longest:.2f} |", flush=True)
+        row(name, f"{size:,}", *cells, f"{longest:.2f}")
     return wrong
 
 
@@ -276,11 +257,8 @@ def main():
     program = os.path.abspath(sys.argv[1] if len(sys.argv) > 1 else "./plistconv")
     with tempfile.TemporaryDirectory() as folder:
         source, measure = os.path.join(folder, "source"), Measure(folder)
-        runs = [measure.run([program, "--version"]) for _ in range(3)]
-        print(
-            f"An empty run takes {min(run.processor for run in runs) * 1000:.1f} ms and "
-            f"{max(run.octets for run in runs) / MIB:.1f} MiB.\n"
-        )
+        seconds, size = least([measure.run([program, "--version"]) for _ in range(3)])
+        print(f"An empty run takes {seconds * 1000:.1f} ms and {size / MIB:.1f} MiB.\n")
         wrong = refused(measure, program, source) + memory(measure, program, source)
     return 1 if wrong else 0
 
