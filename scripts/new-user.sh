@@ -70,9 +70,23 @@ no_broken_links() { # FOLDER
     broken=$(broken_links "$1")
     [ -z "$broken" ] && [ -f "$1/README.md" ] || fail "links that name no file: $broken"
 }
+has_files() { # FOLDER FILE..
+    local file
+    for file in "${@:2}"; do [ -f "$1/$file" ] || fail "there is no $1/$file"; done
+}
 root=$work/a\ root prefix=/usr/a\ prefix
 installed=$root$prefix
 quietly() { "$@" > "$work/log" 2>&1 || { cat "$work/log" >&2; fail "$*"; }; } # COMMAND..
+
+# Makes packages twice, which have to be the same bytes, and sets `digests`.
+packages() { # TARGET END
+    step "make $1"
+    quietly make "$1"
+    digests=$(sha256sum dist/*"$2")
+    quietly make "$1"
+    [ "$digests" = "$(sha256sum dist/*"$2")" ] || fail "make $1 makes other bytes at the second time"
+    echo "$digests, twice"
+}
 
 if wants install || wants manual; then
     step 'make install install-lib DESTDIR=.. PREFIX=.., without the toolchain'
@@ -86,7 +100,7 @@ if wants install; then
     printf '{b=a;a=b;}' > "$work/a.plist"
     if has python3 python3 'the commands'; then
         # A command finds the program of its own installation.
-        (cd "$work" && env -u PLISTCONV "$installed/bin/plistconv-digest" a.plist)
+        (cd "$work" && "$installed/bin/plistconv-digest" a.plist)
         for command in "$installed"/bin/plistconv-*; do "$command" --help > "$work/log" || fail "$command --help"; done
     fi
     grep -qx "Version: $version" "$installed/lib/pkgconfig/plistconv.pc" || fail 'the file for pkg-config is of another version'
@@ -129,12 +143,8 @@ if wants tools && has python3 python3 tools; then step tools; PLISTCONV=./plistc
 if wants examples; then step examples; examples/test && tried=1 || [ $? = 77 ]; fi
 
 if wants dist && has objdump binutils 'the tar file'; then
-    step 'make dist'
-    quietly make dist
-    first=$(cat dist/*.tar.gz.sha256)
-    quietly make dist
-    [ "$first" = "$(cat dist/*.tar.gz.sha256)" ] || fail 'the tar file is another at the second time'
-    echo "$first, twice"
+    packages dist .tar.gz
+    (cd dist && sha256sum --quiet -c ./*.tar.gz.sha256)
     # If git cannot tell the commit, no tar file is made unless the values from the commit are given.
     mkdir "$work/bin"
     printf '#!/bin/sh\necho "git: dubious ownership" >&2\nexit 128\n' > "$work/bin/git"
@@ -145,45 +155,35 @@ if wants dist && has objdump binutils 'the tar file'; then
     fi
     grep -q 'set SOURCE_DATE_EPOCH' "$work/log" || fail "make dist says $(cat "$work/log")"
     PATH="$work/bin:$PATH" SOURCE_DATE_EPOCH=$epoch MAINTAINER=$maintainer quietly make dist
-    [ "$first" = "$(cat dist/*.tar.gz.sha256)" ] || fail 'the tar file is another without git'
+    [ "$digests" = "$(sha256sum dist/*.tar.gz)" ] || fail 'the tar file is another without git'
     mkdir "$work/unpacked" && tar -C "$work/unpacked" --strip-components=1 -xzf dist/*.tar.gz
     (cd "$work/unpacked" && sha256sum --quiet -c SHA256SUMS && bin/plistconv --version)
     no_broken_links "$work/unpacked/share/doc/plistconv"
-    for file in INSTALL bin/plistconv-digest share/doc/plistconv/{README.md,SECURITY.md,THIRD-PARTY,docs/FORMATS.md,examples/c/canonical.c} \
-        share/plistconv/python/pyproject.toml share/man/man1/plistconv-tools.1; do
-        [ -f "$work/unpacked/$file" ] || fail "the tar file has no $file"
-    done
+    has_files "$work/unpacked" INSTALL bin/plistconv-digest share/plistconv/python/pyproject.toml \
+        share/doc/plistconv/{README.md,SECURITY.md,THIRD-PARTY,docs/FORMATS.md,examples/c/canonical.c} share/man/man1/plistconv-tools.1
     grep -q LD_LIBRARY_PATH "$work/unpacked/INSTALL" || fail 'the tar file does not say how its library is found'
-    if has python3 python3 'the commands'; then
-        mkdir "$work/moved here" && mv "$work/unpacked" "$work/moved here/"
-        printf '{a=b;}' | env -u PLISTCONV "$work/moved here/unpacked/bin/plistconv-digest" -
-    else
-        mkdir "$work/moved here" && mv "$work/unpacked" "$work/moved here/"
-    fi
+    moved=$work/moved\ here/unpacked
+    mkdir "$work/moved here" && mv "$work/unpacked" "$moved"
+    if has python3 python3 'the commands'; then printf '{a=b;}' | "$moved/bin/plistconv-digest" -; fi
     if has pkg-config pkgconf 'the file for pkg-config of the tar file'; then
         flags=()
-        eval "flags=($(PKG_CONFIG_PATH="$work/moved here/unpacked/lib/pkgconfig" pkg-config --cflags --libs plistconv))"
+        eval "flags=($(PKG_CONFIG_PATH="$moved/lib/pkgconfig" pkg-config --cflags --libs plistconv))"
         [ -f "${flags[0]#-I}/plistconv.h" ] && [ -f "${flags[1]#-L}/libplistconv.so" ] || fail "pkg-config prints ${flags[*]}"
     fi
     # The commands of INSTALL, without ldconfig, for another folder than /usr/local.
-    commands=$(sed -n "s/^    //; s/ && ldconfig\$//; s|/usr/local|'$work/local'|; /^cp -R/p; /^find/p" "$work/moved here/unpacked/INSTALL")
+    commands=$(sed -n "s/^    //; s/ && ldconfig\$//; s|/usr/local|'$work/local'|; /^cp -R/p; /^find/p" "$moved/INSTALL")
     mkdir "$work/local"
-    (cd "$work/moved here/unpacked" && eval "$(head -n 1 <<< "$commands")")
+    (cd "$moved" && eval "$(head -n 1 <<< "$commands")")
     "$work/local/bin/plistconv" --version
-    (cd "$work/moved here/unpacked" && eval "$(tail -n +2 <<< "$commands")")
+    (cd "$moved" && eval "$(tail -n +2 <<< "$commands")")
     left=$(find "$work/local" ! -type d -o -name 'plistconv*')
     [ -z "$left" ] || fail "INSTALL's commands leave $left"
-    [ "$(ls -A "$work/a new user")" = plistconv ] || fail 'make dist writes outside of the checkout'
     tried=1
 fi
 
 if wants deb && has dpkg-deb dpkg 'the Debian packages' && has objdump binutils 'the Debian packages' &&
     has strip binutils 'the Debian packages'; then
-    step 'make deb'
-    quietly make deb
-    first=$(sha256sum dist/*.deb)
-    quietly make deb
-    [ "$first" = "$(sha256sum dist/*.deb)" ] || fail 'a package is another at the second time'
+    packages deb .deb
     mkdir "$work/deb"
     for package in dist/*.deb; do
         dpkg-deb --info "$package" | sed -n '/Package:/,$p'
@@ -192,10 +192,9 @@ if wants deb && has dpkg-deb dpkg 'the Debian packages' && has objdump binutils 
     done
     "$work/deb/usr/bin/plistconv" --version
     no_broken_links "$work/deb/usr/share/doc/plistconv"
-    for file in usr/share/doc/plistconv/{README.md,SECURITY.md,CHANGELOG.md,THIRD-PARTY,docs/FORMATS.md,examples/c/canonical.c} \
-        usr/bin/plistconv-digest usr/share/man/man1/plistconv-{tools,digest}.1.gz usr/lib/python3/dist-packages/plistconv/py.typed; do
-        [ -f "$work/deb/$file" ] || fail "the packages have no $file"
-    done
+    has_files "$work/deb/usr" bin/plistconv-digest share/man/man1/plistconv-{tools,digest}.1.gz \
+        share/doc/plistconv/{README.md,SECURITY.md,CHANGELOG.md,THIRD-PARTY,docs/FORMATS.md,examples/c/canonical.c} \
+        lib/python3/dist-packages/plistconv/py.typed
     for package in plistconv libplistconv1 libplistconv-dev; do
         grep -q 'Unicode, Inc' "$work/deb/usr/share/doc/$package/copyright" || fail "$package has no notice of Unicode's"
     done
@@ -205,9 +204,7 @@ if wants deb && has dpkg-deb dpkg 'the Debian packages' && has objdump binutils 
 assert about.version("plistconv") == plistconv.library_version()
 print(plistconv.library_version())'
     fi
-    if [ -x /usr/bin/python3 ]; then
-        printf '{a=b;}' | env -u PLISTCONV "$work/deb/usr/bin/plistconv-digest" -
-    fi
+    [ ! -x /usr/bin/python3 ] || printf '{a=b;}' | "$work/deb/usr/bin/plistconv-digest" -
     [ "$(dpkg-deb --ctrl-tarfile dist/libplistconv1_*.deb | tar -xO ./symbols | grep -c '^ plistconv_[a-z]*@Base ')" = \
         "$(grep -c '^uint[0-9]*_t plistconv_' include/plistconv.h)" ] || fail 'the symbols of the library are not those of the header'
     # A program that uses the sources and the library of the packages.
@@ -232,11 +229,9 @@ print(plistconv.library_version())'
             GOPROXY=off GOTOOLCHAIN=local GOCACHE=$work/gocache GOPATH=$work/gopath LD_LIBRARY_PATH=$library go run .) |
             grep -q '^a = b;$' || fail 'the Go package of the packages'
     fi
-    if has lintian lintian 'what lintian says'; then
-        lintian --allow-root --fail-on error,warning dist/*.deb
-    fi
-    [ "$(ls -A "$work/a new user")" = plistconv ] || fail 'make deb writes outside of the checkout'
+    if has lintian lintian 'what lintian says'; then lintian --allow-root --fail-on error,warning dist/*.deb; fi
     tried=1
 fi
+[ "$(ls -A "$work/a new user")" = plistconv ] || fail 'something is written outside of the checkout'
 [ $tried = 1 ] || exit 77
 echo 'new user: all as expected'
