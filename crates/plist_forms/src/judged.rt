@@ -58,7 +58,7 @@ impl<I: AsSlice<u8> + Drop> Binary<I> {
     {
         match self {
             Binary::Input(input) => Ok(judge_file(alloc, input.as_slice())?),
-            Binary::Draft(draft) => Ok(JudgedFile::draft(alloc, layout(draft.as_slice()), true)),
+            Binary::Draft(draft) => Ok(JudgedFile::of_draft(alloc, layout(draft.as_slice()), true)),
         }
     }
 }

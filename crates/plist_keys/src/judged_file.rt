@@ -19,7 +19,7 @@ pub struct JudgedFile<'a> {
 
 impl<'a> JudgedFile<'a> {
     /// Returns a file that is valid by the way it was made. No keys are sorted yet.
-    pub fn draft(alloc: Global, file: BinFile<'a>, writable: bool) -> JudgedFile<'a>
+    pub fn of_draft(alloc: Global, file: BinFile<'a>, writable: bool) -> JudgedFile<'a>
         ensures file { result.file ≡ file.entry }
         ensures ready { (f : List ℕ) → IsReady f result.order }
         ensures writable { result.writable ≡ writable }

@@ -56,7 +56,7 @@ impl Row {
 
 // The keys of a dictionary: their strings by position, and a row for each.
 #[derive(Drop)]
-struct Rows<'a> {
+struct TextRows<'a> {
     texts: Vec<TextRef<'a>>,
     list: Vec<Row>,
 }
@@ -162,7 +162,7 @@ impl<'a> KeyOrder<'a> {
         ensures sorted { IfOk result (IsSortedIn (octets_of file.now)) }
         ensures ready { IsReady (octets_of file.now) self.new }
     {
-        let Rows { texts, mut list } = self.rows(alloc, file, keys)?;
+        let TextRows { texts, mut list } = self.rows(alloc, file, keys)?;
         sort_rows(&mut list, &texts);
         let distinct = ascend(&list, &texts);
         let indices = indices_in_order(alloc, &list)?;
@@ -179,7 +179,7 @@ impl<'a> KeyOrder<'a> {
         alloc: Global,
         file: &BinFile<'a>,
         keys: &Refs,
-    ) -> Result<Rows<'a>, AllocError>
+    ) -> Result<TextRows<'a>, AllocError>
         requires names { NameTexts (octets_of file.now) (numbers_of keys.now) }
         requires ready { IsReady (octets_of file.now) self.old }
         ensures texts { IfOk result (λ rows. AreTexts (octets_of file.now) (numbers_of keys.now)
@@ -205,7 +205,7 @@ fn ranked_rows<'a>(
     file: &BinFile<'a>,
     ranks: &Ranks<'a>,
     keys: &Refs,
-) -> Result<Rows<'a>, AllocError>
+) -> Result<TextRows<'a>, AllocError>
     requires names { NameTexts (octets_of file.now) (numbers_of keys.now) }
     requires ranks { AreRanks (octets_of file.now) ranks.now }
     ensures texts { IfOk result (λ rows. AreTexts (octets_of file.now) (numbers_of keys.now)
@@ -225,7 +225,7 @@ fn ranked_rows<'a>(
             index: to_u32(index)?,
         })?;
     }
-    Ok(Rows { texts, list })
+    Ok(TextRows { texts, list })
 }
 
 // Returns the rank of the key that the object contains, if it has one, and its string.
@@ -239,7 +239,7 @@ fn ranked<'a>(ranks: &Ranks<'a>, object: u64) -> Option<(u64, TextRef<'a>)>
 }
 
 // Returns the keys with these strings, sorted and numbered by sort prefixes if they are many.
-fn text_rows<'a>(alloc: Global, texts: Vec<TextRef<'a>>) -> Result<Rows<'a>, AllocError>
+fn text_rows<'a>(alloc: Global, texts: Vec<TextRef<'a>>) -> Result<TextRows<'a>, AllocError>
     ensures texts { IfOk result (λ rows. rows.texts.items ≡ texts.entry.items) }
     ensures rows { IfOk result (λ rows. AreRows texts.entry.items rows.list.items) }
 {
@@ -252,7 +252,7 @@ fn text_rows<'a>(alloc: Global, texts: Vec<TextRef<'a>>) -> Result<Rows<'a>, All
         })?;
     }
     sort_by_prefixes(list.as_mut_slice(), &texts);
-    Ok(Rows { texts, list })
+    Ok(TextRows { texts, list })
 }
 
 // Sorts the rows of a long dictionary by sort prefixes, and then each run of rows with equal

@@ -27,8 +27,8 @@ fn is_literal(octet: u8) -> bool
     matches!(octet, 0x20..=0x7e) && octet != b'"' && octet != b'\\'
 }
 
-/// Appends a UTF-16 unit of a string to `out`, as it is between quotes: unchanged if it is printable
-/// ASCII that needs no escape, and otherwise an escape.
+/// Appends a UTF-16 unit of a string to `out`, as it is between quotes: unchanged if it is
+/// printable ASCII that needs no escape, and otherwise an escape.
 ///
 /// # Errors
 ///
