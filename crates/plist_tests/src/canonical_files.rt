@@ -1,4 +1,5 @@
 //! Canonical files made from binary files, without their values.
+use crate::files::padded;
 use plist_binary::judge_file;
 use plist_object::Object;
 use plist_value::{FixedHasher, ScalarRef, Whole};
@@ -15,27 +16,26 @@ pub(crate) fn canonical_file(alloc: Global, octets: &[u8]) -> Result<Vec<u8>, Al
     }
 }
 
+const TWO: &[u8] = b"\xa2\x01\x02";
+
+// References to objects 1 to 24, and to 20 objects, of four of which it has two.
+const LISTED: &[u8] = b"\xaf\x10\x18\x01\x02\x03\x04\x05\x06\x07\x08\x09\x0a\x0b\x0c\
+    \x0d\x0e\x0f\x10\x11\x12\x13\x14\x15\x16\x17\x18";
+
+const SHARED: &[u8] = b"\xaf\x10\x18\x01\x02\x03\x04\x05\x06\x07\x08\x09\x0a\x0b\x0c\
+    \x0d\x0e\x0f\x10\x11\x12\x13\x14\x01\x08\x09\x14";
+
 // Long pieces of data: two that are equal, two that differ in the last byte, and more than are
 // compared without a hash, with repeats. Each row has the array and the last bytes of the data, for
 // a file and for its canonical file.
 const LONG: [[&[u8]; 4]; 3] = [
-    [&[0xa2, 1, 2], &[7, 7], &[0xa2, 1, 1], &[7]],
-    [&[0xa2, 1, 2], &[7, 8], &[0xa2, 1, 2], &[7, 8]],
+    [TWO, b"aa", b"\xa2\x01\x01", b"a"],
+    [TWO, b"ab", TWO, b"ab"],
     [
-        &[
-            0xaf, 0x10, 24, 1, 2, 3, 4, 5, 6, 7, 8, 9, 10, 11, 12, 13, 14, 15, 16, 17, 18, 19, 20,
-            21, 22, 23, 24,
-        ],
-        &[
-            1, 2, 3, 4, 5, 6, 7, 8, 9, 10, 11, 12, 13, 14, 15, 16, 17, 18, 19, 20, 1, 8, 9, 20,
-        ],
-        &[
-            0xaf, 0x10, 24, 1, 2, 3, 4, 5, 6, 7, 8, 9, 10, 11, 12, 13, 14, 15, 16, 17, 18, 19, 20,
-            1, 8, 9, 20,
-        ],
-        &[
-            1, 2, 3, 4, 5, 6, 7, 8, 9, 10, 11, 12, 13, 14, 15, 16, 17, 18, 19, 20,
-        ],
+        LISTED,
+        b"abcdefghijklmnopqrstahit",
+        SHARED,
+        b"abcdefghijklmnopqrst",
     ],
 ];
 
@@ -44,8 +44,7 @@ fn file_of_long(alloc: Global, list: &[u8], lasts: &[u8]) -> Result<Vec<u8>, All
     let mut draft = Draft::new(alloc)?;
     draft.put(list)?;
     for last in lasts {
-        let mut object = Vec::from_slice(alloc, &[0x4f, 0x12, 0, 1, 0, 0])?;
-        object.resize(5 + 65_536, 0)?;
+        let mut object = padded(alloc, &[0x4f, 0x12, 0, 1, 0, 0], 65_535, 0)?;
         object.push(*last)?;
         draft.put(object.as_slice())?;
     }
@@ -72,7 +71,7 @@ fn file_of_many(alloc: Global, objects: u16, are_numbers: bool) -> Result<Vec<u8
         let object = if index < objects {
             index
         } else {
-            index.saturating_sub(objects)
+            index - objects
         };
         list.extend_from_slice(&object.saturating_add(1).to_be_bytes())?;
     }

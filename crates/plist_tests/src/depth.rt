@@ -1,10 +1,32 @@
 //! Texts of values as deep as allowed, and deeper.
-use crate::texts::{LISTS, Parts, nested};
 use ostep_text::{TextFault, read_text, write_text};
 use plist_forms::{Fault, canonicalise};
 use plist_value::same;
+use std::alloc::{AllocError, Global};
 use std::test::Fail;
 use test_files::chain;
+
+// A beginning, a part that is repeated, a middle, another part that is repeated as often, and an
+// end.
+pub(crate) type Parts = [&'static [u8]; 5];
+
+// Nested arrays.
+pub(crate) const LISTS: Parts = [b"", b"(", b"a", b")", b""];
+
+// Returns the text of these parts, with the repeated ones `count` times.
+pub(crate) fn nested(alloc: Global, parts: &Parts, count: usize) -> Result<Vec<u8>, AllocError> {
+    let [front, opening, middle, ending, end] = *parts;
+    let mut text = Vec::from_slice(alloc, front)?;
+    for _ in 0..count {
+        text.extend_from_slice(opening)?;
+    }
+    text.extend_from_slice(middle)?;
+    for _ in 0..count {
+        text.extend_from_slice(ending)?;
+    }
+    text.extend_from_slice(end)?;
+    Ok(text)
+}
 
 const TABLES: Parts = [b"", b"{a=", b"b", b";}", b""];
 
@@ -48,7 +70,7 @@ fn lists_511_deep_are_written(rt: HostRuntime) -> Result<(), Fail> {
     let text = nested(rt.alloc(), &LISTS, 511)?;
     let canonical = canonicalise(rt.alloc(), text.as_slice())?;
     assert_eq!(rt; canonical.len(), 2599);
-    assert!(rt; canonical == chain(rt.alloc(), 512, b"Qa")?);
+    assert!(rt; canonical == chain(rt.alloc(), 512, b"Qa", [2, 2])?);
     let value = read_text(rt.alloc(), text.as_slice())?;
     let written = write_text(rt.alloc(), &value)?;
     let lines = [b"".as_slice(), b"(\n", b"a", b",\n)", b"\n"];

@@ -59,11 +59,7 @@ const TOGETHER: [&[&[u8]]; 16] = [
     &[b"\xa3\x01\x02\x03", b"X/usr/bin", b"Ta//b", b"Qd"],
     &[b"\xd1\x01\x01", b"Qa"],
     &[b"\xa1\x01", b"\x09"],
-    &[
-        b"\xa2\x01\x02",
-        b"\x23\x41\0\0\0\0\0\0\0",
-        b"\x33\x41\0\0\0\0\0\0\0",
-    ],
+    &[b"\xa2\x01\x02", b"#A\0\0\0\0\0\0\0", b"3A\0\0\0\0\0\0\0"],
     &[b"\xd1\x01\x01", b"\x09"],
     &[b"\xd2\x01\x02\x03\x03", b"Qa", b"Qa", b"\x09"],
     &[b"\xa2\x01\x02", b"RQa", b"Qa"],
@@ -78,7 +74,7 @@ const TOGETHER: [&[&[u8]]; 16] = [
 ];
 
 // Returns the canonical file of a dictionary, with one byte of its trailer changed.
-fn marked(alloc: Global) -> Result<Vec<u8>, AllocError> {
+pub(crate) fn marked(alloc: Global) -> Result<Vec<u8>, AllocError> {
     let mut file = file_of(alloc, &[b"\xd2\x01\x02\x02\x01", b"Qa", b"Qb"], 1)?;
     if let Some(slack) = file.get_mut(20) {
         *slack = 1;
@@ -149,6 +145,6 @@ pub(crate) fn files(alloc: Global) -> Result<Vec<Vec<u8>>, AllocError> {
     files.push(numbers(alloc, 255, 2)?)?;
     files.push(zeros(alloc, b"\x4f\x10\xf4", 244, 1)?)?;
     files.push(zeros(alloc, b"\x4f\x10\xf5", 245, 2)?)?;
-    files.push(chain(alloc, 512, b"Qa")?)?;
+    files.push(chain(alloc, 512, b"Qa", [2, 2])?)?;
     Ok(files)
 }

@@ -1,15 +1,15 @@
-//! Refused memory: each call that allocates returns 60, or the same as with ample memory.
-//! bench/growths.py runs a test once for each of its allocations, which it refuses from outside.
-//! The text of an assertion names no 60, so that a failed one is not taken for a returned 60.
-use crate::files::numbers;
-use crate::worked_files::{TABLE, TABLE_TEXT, TWICE, WRITTEN_TEXT};
-use ostep_text::{TextFault, TextWriteFault, read_text, write_text};
-use plist_binary::{BinaryFault, read};
-use plist_canon::{CheckFault, ListSink, Verdict, WriteFault, canonical, check, write_canonical};
-use plist_devices::ListSource;
-use plist_forms::{Fault, PairFault, canonicalise, judge_any, line, load, read_any, same_files};
-use plist_value::{Utf16, Value, copy, fits, same};
-use std::alloc::{AllocError, Global};
+//! Calls that allocate, on small inputs. bench/growths.py runs a test once for each of its
+//! allocations, which it refuses from outside: the test then passes, or the first call with another
+//! answer gives 60.
+use crate::files::{marked, numbers};
+use crate::judge_tests::REORDERED;
+use crate::worked_files::{TABLE, TABLE_TEXT, TWICE, UNSORTED, VALUES_FIRST, WRITTEN_TEXT};
+use ostep_text::{TextFault, read_text, write_text};
+use plist_binary::{BinaryFault, judge, read};
+use plist_canon::{ListSink, Verdict, WriteFault, canonical, check, write_canonical};
+use plist_devices::DeviceFault;
+use plist_forms::{Fault, PairFault, canonicalise, judge_any, line, read_any, same_files};
+use plist_value::{Value, fits, same};
 use std::test::Fail;
 use test_files::file;
 
@@ -30,57 +30,40 @@ const TEXTS: [(&[u8], u8); 8] = [
     (b" ", 0),
 ];
 
-// Returns whether this is the number of the refusal, or 60.
-fn is_told(answer: u8, code: u8) -> bool {
-    answer == code || answer == 60
-}
-
-fn value_of(alloc: Global, octets: &[u8]) -> Result<Value, Fail> {
-    Ok(read_text(alloc, octets)?)
-}
-
+// Two references to one array, dictionaries with keys out of order, and an array that contains
+// itself.
 #[test]
-fn copies(rt: HostRuntime) -> Result<(), Fail> {
-    let value = value_of(rt.alloc(), TABLE_TEXT)?;
-    if let Ok(copied) = copy(rt.alloc(), &value) {
-        assert!(rt; same(&copied, &value));
+fn files_are_judged_and_read(rt: HostRuntime) -> Result<(), Fail> {
+    let alloc = rt.alloc();
+    let shared = file(alloc, b"\xa2\x01\x01\xa0", &[8, 11], 1)?;
+    let circular = file(alloc, b"\xa1\x00", &[8], 1)?;
+    let rows = [
+        (shared.as_slice(), 0),
+        (UNSORTED, 0),
+        (REORDERED, 0),
+        (circular.as_slice(), 15),
+    ];
+    for (octets, code) in rows {
+        assert_eq!(rt; code_of!(judge(alloc, octets)), code, "{octets:?}");
+        assert_eq!(rt; code_of!(read(alloc, octets)), code, "{octets:?}");
+        assert_eq!(rt; code_of!(check(alloc, octets)), 0, "{octets:?}");
     }
-    let units = Utf16::from_units(Vec::from_slice(rt.alloc(), &[0x61, 0x62])?);
-    if let Ok(copied) = units.copy(rt.alloc()) {
-        assert_eq!(rt; copied.units(), [0x61, 0x62].as_slice());
-    }
-    Ok(())
-}
-
-#[test]
-fn binary_files_are_read(rt: HostRuntime) -> Result<(), Fail> {
-    let shared = file(rt.alloc(), b"\xa2\x01\x01\xa0", &[8, 11], 1)?;
-    match read(rt.alloc(), shared.as_slice()) {
-        Ok(value) => assert!(rt; same(&value, &value_of(rt.alloc(), b"((), ())")?)),
-        Err(fault) => assert!(rt;
-            fault == BinaryFault::OutOfMemory,
-            "a valid file is refused"
-        ),
-    }
-    let circular = file(rt.alloc(), &[0xa1, 0], &[8], 1)?;
-    let code = code_of!(read(rt.alloc(), circular.as_slice()));
-    assert!(rt; is_told(code, 15), "another refusal of a cycle");
+    let value = read(alloc, shared.as_slice())?;
+    assert!(rt; same(&value, &read_text(alloc, b"((), ())")?));
     Ok(())
 }
 
 #[test]
 fn files_are_made(rt: HostRuntime) -> Result<(), Fail> {
-    let value = value_of(rt.alloc(), SURROGATES)?;
+    let alloc = rt.alloc();
+    let value = read_text(alloc, SURROGATES)?;
     if !fits(&value) {
         return Err(Fail::from("it does not fit"));
     }
-    let Ok(whole) = canonical(rt.alloc(), &value) else {
-        return Ok(());
-    };
+    let whole = canonical(alloc, &value)?;
     assert_eq!(rt; whole.len() as u64, SURROGATES_SIZE);
-    let mut sink = ListSink::new(rt.alloc(), 100, 7)?;
-    assert_eq!(rt; sink.taken().len(), 0);
-    let sent = match write_canonical(rt.alloc(), &value, &mut sink) {
+    let mut sink = ListSink::new(alloc, 100, 7)?;
+    let sent = match write_canonical(alloc, &value, &mut sink) {
         Ok(sent) => {
             assert_eq!(rt; sent, SURROGATES_SIZE);
             sent
@@ -92,66 +75,39 @@ fn files_are_made(rt: HostRuntime) -> Result<(), Fail> {
     Ok(())
 }
 
-// Checks the file of these objects, with `slack` as the first byte of its trailer.
-fn checked(
-    alloc: Global,
-    objects: &[u8],
-    slack: u8,
-) -> Result<Result<Verdict, CheckFault>, AllocError> {
-    let mut octets = file(alloc, objects, &[8, 13, 15], 1)?;
-    let end = octets.len().saturating_sub(32);
-    if let Some(octet) = octets.get_mut(end) {
-        *octet = slack;
-    }
-    Ok(check(alloc, octets.as_slice()))
-}
-
-// The objects, the first byte of the trailer, and the verdict on the file.
-const CHECKED: [(&[u8], u8, Verdict); 4] = [
-    (b"\xd2\x01\x02\x02\x01QaQb", 0, Verdict::Canonical),
-    (b"\xd2\x02\x01\x01\x02QbQa", 0, BROKEN_7),
-    (b"\xd2\x01\x02\x02\x01QbQa", 0, BROKEN_5),
-    (b"\xd2\x01\x02\x02\x01QaQb", 1, BROKEN_1),
-];
-
-const BROKEN_1: Verdict = Verdict::Broken { rule: 1, object: 0 };
-
-const BROKEN_5: Verdict = Verdict::Broken { rule: 5, object: 0 };
-
-const BROKEN_7: Verdict = Verdict::Broken { rule: 7, object: 0 };
-
 #[test]
 fn files_are_checked(rt: HostRuntime) -> Result<(), Fail> {
-    for (objects, slack, verdict) in CHECKED {
-        let answer = checked(rt.alloc(), objects, slack)?;
-        let is_right = answer == Ok(verdict) || answer == Err(CheckFault::OutOfMemory);
-        assert!(rt; is_right, "another verdict");
+    let alloc = rt.alloc();
+    let marked = marked(alloc)?;
+    let rows = [
+        (TABLE, Verdict::Canonical),
+        (VALUES_FIRST, Verdict::Broken { rule: 7, object: 0 }),
+        (UNSORTED, Verdict::Broken { rule: 5, object: 0 }),
+        (marked.as_slice(), Verdict::Broken { rule: 1, object: 0 }),
+    ];
+    for (octets, verdict) in rows {
+        assert_eq!(rt; check(alloc, octets), Ok(verdict));
     }
-    assert_eq!(rt; code_of!(check(rt.alloc(), TABLE_TEXT)), 1);
+    assert_eq!(rt; code_of!(check(alloc, TABLE_TEXT)), 1);
     Ok(())
 }
 
 #[test]
 fn texts_are_read(rt: HostRuntime) -> Result<(), Fail> {
+    let alloc = rt.alloc();
     for (octets, code) in TEXTS {
-        let answers = [
-            code_of!(read_text(rt.alloc(), octets)),
-            code_of!(judge_any(rt.alloc(), octets)),
-            code_of!(read_any(rt.alloc(), octets)),
-            code_of!(canonicalise(rt.alloc(), octets)),
-        ];
-        for answer in answers {
-            assert!(rt; is_told(answer, code), "another refusal of a text");
-        }
+        assert_eq!(rt; code_of!(read_text(alloc, octets)), code, "{octets:?}");
+        assert_eq!(rt; code_of!(judge_any(alloc, octets)), code, "{octets:?}");
+        assert_eq!(rt; code_of!(read_any(alloc, octets)), code, "{octets:?}");
+        assert_eq!(rt; code_of!(canonicalise(alloc, octets)), code, "{octets:?}");
     }
-    if let Ok(canonical) = canonicalise(rt.alloc(), TABLE_TEXT) {
-        assert_eq!(rt; canonical.as_slice(), TABLE);
-    }
+    assert_eq!(rt; canonicalise(alloc, TABLE_TEXT)?.as_slice(), TABLE);
     Ok(())
 }
 
 #[test]
 fn texts_are_written(rt: HostRuntime) -> Result<(), Fail> {
+    let alloc = rt.alloc();
     let rows: [(&[u8], &[u8]); 5] = [
         (b"\"bplist\"", b"\"bplist\"\n"),
         (b"\"\\Ud800\"", b"\"\\Ud800\"\n"),
@@ -160,53 +116,56 @@ fn texts_are_written(rt: HostRuntime) -> Result<(), Fail> {
         (b"a.b", b"\"a.b\"\n"),
     ];
     for (octets, written) in rows {
-        let value = value_of(rt.alloc(), octets)?;
+        let value = read_text(alloc, octets)?;
         if !fits(&value) {
             return Err(Fail::from("it does not fit"));
         }
-        match write_text(rt.alloc(), &value) {
-            Ok(text) => assert_eq!(rt; text.as_slice(), written),
-            Err(fault) => assert!(rt; fault == TextWriteFault::OutOfMemory, "it has a text"),
-        }
+        assert_eq!(rt; write_text(alloc, &value)?.as_slice(), written);
     }
-    let mut items = Vec::new(rt.alloc());
-    items.push(Value::Flag(true))?;
-    let flags = Value::List(items);
+    let flags = Value::List(vec![in alloc; Value::Flag(true)]?);
     if fits(&flags) {
-        let code = code_of!(write_text(rt.alloc(), &flags));
-        assert!(rt; is_told(code, 40), "another refusal of a value");
+        assert_eq!(rt; code_of!(write_text(alloc, &flags)), 40);
     }
     Ok(())
 }
 
 #[test]
 fn files_are_compared(rt: HostRuntime) -> Result<(), Fail> {
-    match same_files(rt.alloc(), TABLE_TEXT, TABLE) {
-        Ok(equal) => assert!(rt; equal),
-        Err(fault) => assert!(rt; fault.code() == 60, "valid files are refused"),
-    }
+    assert_eq!(rt; same_files(rt.alloc(), TABLE_TEXT, TABLE), Ok(true));
     let twice = Fault::Text(TextFault::DuplicateKey { octet: 3 });
-    match same_files(rt.alloc(), TABLE_TEXT, TWICE) {
-        Ok(_) => return Err(Fail::from("a key stands twice")),
-        Err(fault) => {
-            let is_right = fault == PairFault::Second(twice) || fault.code() == 60;
-            assert!(rt; is_right, "another refusal of a pair");
-        }
-    }
-    let printed = line(rt.alloc(), "twice.txt", &twice)?;
-    assert_eq!(rt;
-        printed.as_str(),
-        "twice.txt: refused 14 DuplicateKey at octet 3"
-    );
+    let answer = same_files(rt.alloc(), TABLE_TEXT, TWICE);
+    assert_eq!(rt; answer, Err(PairFault::Second(twice)));
     Ok(())
 }
 
 #[test]
-fn sources_are_loaded(rt: HostRuntime) -> Result<(), Fail> {
-    match load(rt.alloc(), &mut ListSource::new(TABLE_TEXT, 3, None)) {
-        Ok(octets) => assert_eq!(rt; octets.as_slice(), TABLE_TEXT),
-        Err(fault) => assert!(rt; fault.code() == 60, "a source is refused"),
+fn faults_are_printed(rt: HostRuntime) -> Result<(), Fail> {
+    let alloc = rt.alloc();
+    let ascii = Fault::Binary(BinaryFault::NotAscii { object: 7 });
+    let twice = Fault::Text(TextFault::DuplicateKey { octet: 3 });
+    for (fault, printed) in [
+        (ascii, "p: refused 11 NotAscii at object 7"),
+        (
+            Fault::from(BinaryFault::OutOfMemory),
+            "p: refused 60 OutOfMemory after 0 octets",
+        ),
+        (twice, "p: refused 14 DuplicateKey at octet 3"),
+    ] {
+        assert_eq!(rt; line(alloc, "p", &fault)?.as_str(), printed);
     }
+    for (fault, printed) in [
+        (
+            PairFault::First(Fault::ReadFailed),
+            "the first: 50 ReadFailed",
+        ),
+        (
+            PairFault::Second(Fault::from(DeviceFault)),
+            "the second: 50 ReadFailed",
+        ),
+    ] {
+        assert_eq!(rt; fault.to_string(alloc)?.as_str(), printed);
+    }
+    assert_eq!(rt; DeviceFault.to_string(alloc)?.as_str(), "the device failed");
     Ok(())
 }
 
@@ -216,9 +175,6 @@ fn sources_are_loaded(rt: HostRuntime) -> Result<(), Fail> {
 fn a_value_of_many_strings_is_read(rt: HostRuntime) -> Result<(), Fail> {
     let octets = numbers(rt.alloc(), 255, 2)?;
     let value = read(rt.alloc(), octets.as_slice())?;
-    let Value::List(items) = &value else {
-        return Err(Fail::from("it is no array"));
-    };
-    assert_eq!(rt; items.len(), 255);
+    assert!(rt; matches!(&value, Value::List(items) if items.len() == 255));
     Ok(())
 }

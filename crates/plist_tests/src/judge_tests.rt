@@ -1,9 +1,7 @@
-//! The validator and the reader, beyond the rows: keys of long dictionaries, overlapping
-//! dictionaries, and refused memory.
+//! The validator, beyond the rows: keys of long dictionaries, and overlapping dictionaries.
 use crate::canonical_files::canonical_file;
-use crate::worked_files::UNSORTED;
-use plist_binary::{BinaryFault, judge, read};
-use plist_canon::{CheckFault, Verdict, check};
+use plist_binary::{BinaryFault, judge};
+use plist_canon::{Verdict, check};
 use std::alloc::{AllocError, Global};
 use std::test::Fail;
 use test_files::{Draft, end};
@@ -66,33 +64,31 @@ const BEGINNINGS: [(u8, &[u8]); 3] = [
     (2, &[1, 8, 17, 90]),
 ];
 
-// Returns the first beginning for which the dictionary, or one with a duplicate key, has another
-// result.
-fn wrong_beginning(alloc: Global) -> Result<Option<(u8, u8)>, AllocError> {
-    for (sharing, counts) in &BEGINNINGS {
-        for units in counts.iter() {
-            let octets = long_table(alloc, *sharing, *units, 6)?;
-            let twice = long_table(alloc, *sharing, *units, 7)?;
-            let fault = judge(alloc, twice.as_slice()).err();
-            if !is_sorted(alloc, octets.as_slice())?
-                || fault != Some(BinaryFault::DuplicateKey { object: 0 })
-            {
-                return Ok(Some((*sharing, *units)));
-            }
-        }
-    }
-    Ok(None)
-}
-
+// Also with a duplicate key.
 #[test]
 fn keys_of_a_long_table(rt: HostRuntime) -> Result<(), Fail> {
-    assert_eq!(rt; wrong_beginning(rt.alloc())?, None);
+    for (sharing, counts) in &BEGINNINGS {
+        for units in counts.iter() {
+            let octets = long_table(rt.alloc(), *sharing, *units, 6)?;
+            assert!(rt;
+                is_sorted(rt.alloc(), octets.as_slice())?,
+                "{sharing}, {units}"
+            );
+            let twice = long_table(rt.alloc(), *sharing, *units, 7)?;
+            let fault = BinaryFault::DuplicateKey { object: 0 };
+            assert_eq!(rt;
+                judge(rt.alloc(), twice.as_slice()),
+                Err(fault),
+                "{sharing}, {units}"
+            );
+        }
+    }
     Ok(())
 }
 
 // Two dictionaries of the same two keys, in either order. Both keys are long: together they are
 // longer than the file, so that they are compared by their ranks.
-const REORDERED: &[u8] = b"bplist00\xa2\x01\x02\xd2\x03\x04\x05\x05\xd2\x04\x03\x05\x05\
+pub(crate) const REORDERED: &[u8] = b"bplist00\xa2\x01\x02\xd2\x03\x04\x05\x05\xd2\x04\x03\x05\x05\
     \x5f\x10\x3caaaaaaaaaaaaaaaaaaaaaaaaaaaaaaaaaaaaaaaaaaaaaaaaaaaaaaaaaaax\
     \x5f\x10\x3caaaaaaaaaaaaaaaaaaaaaaaaaaaaaaaaaaaaaaaaaaaaaaaaaaaaaaaaaaaw\x09\
     \x08\x0b\x10\x15\x54\x93\0\0\0\0\0\0\x01\x01\0\0\0\0\0\0\0\x06\0\0\0\0\0\0\0\0\
@@ -102,35 +98,6 @@ const REORDERED: &[u8] = b"bplist00\xa2\x01\x02\xd2\x03\x04\x05\x05\xd2\x04\x03\
 fn keys_in_another_order(rt: HostRuntime) -> Result<(), Fail> {
     assert!(rt; is_sorted(rt.alloc(), REORDERED)?);
     Ok(())
-}
-
-// Two references to one empty array; a dictionary with its keys out of order, and two; an array
-// that contains itself. Literals, so that only the calls allocate. With the number of the refusal,
-// 0 if the file is accepted.
-const FILES: [(&[u8], u8); 4] = [
-    (
-        b"bplist00\xa2\x01\x01\xa0\x08\x0b\0\0\0\0\0\0\x01\x01\0\0\0\0\0\0\0\x02\0\0\0\0\0\0\0\
-          \0\0\0\0\0\0\0\0\x0c",
-        0,
-    ),
-    (UNSORTED, 0),
-    (REORDERED, 0),
-    (
-        b"bplist00\xa1\x00\x08\0\0\0\0\0\0\x01\x01\0\0\0\0\0\0\0\x01\0\0\0\0\0\0\0\0\0\0\0\0\0\
-          \0\0\x0a",
-        15,
-    ),
-];
-
-// Returns whether the validator and the reader give this number, and the check no error, unless
-// they are out of memory.
-fn is_answered(alloc: Global, octets: &[u8], code: u8) -> bool {
-    let judged = code_of!(judge(alloc, octets));
-    let value = code_of!(read(alloc, octets));
-    let checked = check(alloc, octets).err();
-    (judged == code || judged == 60)
-        && (value == code || value == 60)
-        && (checked.is_none() || checked == Some(CheckFault::OutOfMemory))
 }
 
 // Returns a file with a dictionary of `count` keys, all of them one string, and `count` objects
@@ -159,14 +126,5 @@ fn tables_that_overlap_take_no_longer(rt: HostRuntime) -> Result<(), Fail> {
     assert_eq!(rt; check(rt.alloc(), octets.as_slice())?, broken);
     let fault = BinaryFault::DuplicateKey { object: 0 };
     assert_eq!(rt; judge(rt.alloc(), octets.as_slice()), Err(fault));
-    Ok(())
-}
-
-// To refuse memory: `rt try --test --fail-alloc N -- judge_tests::want_of_memory`, N from 1 to 40.
-#[test]
-fn want_of_memory(rt: HostRuntime) -> Result<(), Fail> {
-    for (octets, code) in FILES {
-        assert!(rt; is_answered(rt.alloc(), octets, code), "{octets:?}");
-    }
     Ok(())
 }

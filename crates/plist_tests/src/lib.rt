@@ -17,8 +17,6 @@ mod depth;
 #[cfg(test)]
 mod drafts;
 #[cfg(test)]
-mod faults;
-#[cfg(test)]
 mod files;
 #[cfg(test)]
 mod growths;
@@ -26,8 +24,6 @@ mod growths;
 mod judge_tests;
 #[cfg(test)]
 mod limit_tests;
-#[cfg(test)]
-mod loading_tests;
 #[cfg(test)]
 mod object_tests;
 #[cfg(test)]
@@ -37,13 +33,7 @@ mod order_tests;
 #[cfg(test)]
 mod prefixes;
 #[cfg(test)]
-mod print_tests;
-#[cfg(test)]
-mod sending_tests;
-#[cfg(test)]
 mod sink_tests;
-#[cfg(test)]
-mod texts;
 #[cfg(test)]
 mod tokens;
 #[cfg(test)]

@@ -23,32 +23,14 @@ fn tower_of_tables(alloc: Global) -> Result<Vec<u8>, AllocError> {
     draft.finish(1, 1)
 }
 
-// Returns `count` objects: arrays that each contain the next one, and a boolean, with references of
-// three bytes.
-fn long_chain(alloc: Global, count: u32) -> Result<Vec<u8>, AllocError> {
-    let mut draft = Draft::new(alloc)?;
-    for i in 1..count {
-        let [_, high, middle, low] = i.to_be_bytes();
-        draft.put(&[0xa1, high, middle, low])?;
-    }
-    draft.put(b"\x09")?;
-    draft.finish(4, 3)
-}
-
 // Returns an array of a chain of 300 levels, and of another one of 300 arrays that ends in the
 // first.
 fn shared_chain(alloc: Global) -> Result<Vec<u8>, AllocError> {
     let mut draft = Draft::new(alloc)?;
     draft.put(b"\xa2\x00\x01\x01\x2d")?;
-    for i in 2..301u16 {
-        let [high, low] = i.to_be_bytes();
-        draft.put(&[0xa1, high, low])?;
-    }
+    draft.put_chain(2..301, 2)?;
     draft.put(b"\x09")?;
-    for i in 302..601u16 {
-        let [high, low] = i.to_be_bytes();
-        draft.put(&[0xa1, high, low])?;
-    }
+    draft.put_chain(302..601, 2)?;
     draft.put(b"\xa1\x00\x01")?;
     draft.finish(2, 2)
 }
@@ -79,40 +61,30 @@ fn heavy_keys(alloc: Global, last: u8) -> Result<Vec<u8>, AllocError> {
     draft.finish(4, 1)
 }
 
-// A generated file.
+// A generated file, by the function of its name or as said here.
 #[derive(Clone, Copy)]
 enum Shape {
-    // A number of objects: arrays that each contain the next one, and a last one of this byte.
-    Chain(u16, u8),
-    // Like `Chain`, with references of three bytes, and a boolean at the end.
+    Chain(u32, u8),
+    // A chain with references of three bytes, and a boolean at the end.
     LongChain(u32),
-    // Two chains, one of which ends in the other.
     SharedChain,
-    // Thirty arrays that each contain the next object twice.
     Tower,
-    // Thirty dictionaries that each contain the next object twice.
     TowerOfTables,
-    // An array that contains a boolean this number of times.
+    // This number of times a boolean, data of 1,048,576 bytes, with offsets of this width, or a
+    // string of 524,288 units.
     Flags(u32),
-    // An array that contains data of 1,048,576 bytes this number of times, with offsets of this
-    // width.
     Data(u32, u8),
-    // An array that contains a string of 524,288 units this number of times.
     Texts(u32),
-    // An array of this number of strings of three digits, with references of this width.
     Numbers(u8, u8),
-    // Data with this marker and count and this number of zeros, with an offset of this width.
     Zeros(&'static [u8], u8, u8),
-    // A dictionary whose keys have the maximum payload of a value, and as one more key this
-    // object.
     HeavyKeys(u8),
 }
 
 impl Shape {
     fn file(self, alloc: Global) -> Result<Vec<u8>, AllocError> {
         match self {
-            Shape::Chain(count, last) => chain(alloc, count, &[last]),
-            Shape::LongChain(count) => long_chain(alloc, count),
+            Shape::Chain(count, last) => chain(alloc, count, &[last], [2, 2]),
+            Shape::LongChain(count) => chain(alloc, count, b"\x09", [4, 3]),
             Shape::SharedChain => shared_chain(alloc),
             Shape::Tower => tower(alloc),
             Shape::TowerOfTables => tower_of_tables(alloc),
@@ -128,81 +100,60 @@ impl Shape {
     }
 }
 
-// The result of the validator, the reader and `canonicalise`.
-#[derive(Clone, Copy)]
-enum Answer {
-    // All refuse the file with this fault.
-    Refused(BinaryFault),
-    // All accept the file, which is the canonical file of the value that is read.
-    Read,
-    // The file is accepted and is its own canonical file. It is not read, because its value needs
-    // much memory.
-    Judged,
-}
+const DEEP: BinaryFault = BinaryFault::TooDeep { object: 512 };
 
-const DEEP: Answer = Answer::Refused(BinaryFault::TooDeep { object: 512 });
+const SHARED: BinaryFault = BinaryFault::TooDeep { object: 212 };
 
-const SHARED: Answer = Answer::Refused(BinaryFault::TooDeep { object: 212 });
+const TOWER: BinaryFault = BinaryFault::TooManyNodes { object: 29 };
 
-const TOWER: Answer = Answer::Refused(BinaryFault::TooManyNodes { object: 29 });
+const TABLES: BinaryFault = BinaryFault::TooManyNodes { object: 32 };
 
-const TABLES: Answer = Answer::Refused(BinaryFault::TooManyNodes { object: 32 });
+const WIDE: BinaryFault = BinaryFault::TooManyNodes { object: 1 };
 
-const WIDE: Answer = Answer::Refused(BinaryFault::TooManyNodes { object: 1 });
+const HEAVY: BinaryFault = BinaryFault::TooMuchPayload { object: 1 };
 
-const HEAVY: Answer = Answer::Refused(BinaryFault::TooMuchPayload { object: 1 });
-
-const NO_TEXT: Answer = Answer::Refused(BinaryFault::KeyNotText { object: 0 });
-
-const NUMBERS_254: Shape = Shape::Numbers(254, 1);
-
-const NUMBERS_255: Shape = Shape::Numbers(255, 2);
+const NO_TEXT: BinaryFault = BinaryFault::KeyNotText { object: 0 };
 
 const ZEROS_244: Shape = Shape::Zeros(b"\x4f\x10\xf4", 244, 1);
 
 const ZEROS_245: Shape = Shape::Zeros(b"\x4f\x10\xf5", 245, 2);
 
-// A shape, the size of its file, the result, and the rule that the check finds broken, with the
-// object.
-type Row = (Shape, usize, Answer, Option<(u8, u64)>);
-
-// The check finds rule 0 broken at object 0 for a value beyond the limits. It reaches the container
-// of a tower a second time before it counts a node.
-const ROWS: [Row; 24] = [
-    (Shape::Chain(512, 0x09), 2598, Answer::Read, None),
-    (Shape::Chain(513, 0x09), 2603, DEEP, Some((0, 0))),
-    (Shape::Chain(20_000, 0xa0), 100_038, DEEP, Some((0, 0))),
-    (Shape::LongChain(513), 4141, DEEP, Some((2, 0))),
-    (Shape::LongChain(1_000_000), 8_000_037, DEEP, Some((2, 0))),
-    (Shape::SharedChain, 3045, SHARED, Some((7, 600))),
-    (Shape::Tower, 162, TOWER, Some((7, 29))),
-    (Shape::TowerOfTables, 228, TABLES, Some((7, 0))),
-    (Shape::Flags(4_194_303), 4_194_358, Answer::Read, None),
-    (Shape::Flags(4_194_304), 4_194_359, Answer::Read, None),
-    (Shape::Flags(16_777_215), 16_777_270, Answer::Judged, None),
-    (Shape::Flags(16_777_216), 16_777_271, WIDE, Some((0, 0))),
-    (Shape::Data(256, 4), 1_048_890, Answer::Read, None),
-    (Shape::Data(257, 4), 1_048_891, Answer::Read, None),
-    (Shape::Data(1024, 4), 1_049_658, Answer::Judged, None),
-    (Shape::Data(1025, 4), 1_049_659, HEAVY, Some((0, 0))),
-    (Shape::Texts(1024), 525_370, Answer::Judged, None),
-    (Shape::Texts(1025), 525_371, HEAVY, Some((0, 0))),
+// Canonical files, with their sizes, and whether their values are read, for which the others need
+// much memory.
+const ACCEPTED: [(Shape, usize, bool); 12] = [
+    (Shape::Chain(512, 0x09), 2598, true),
+    (Shape::Flags(4_194_303), 4_194_358, true),
+    (Shape::Flags(4_194_304), 4_194_359, true),
+    (Shape::Flags(16_777_215), 16_777_270, false),
+    (Shape::Data(256, 4), 1_048_890, true),
+    (Shape::Data(257, 4), 1_048_891, true),
+    (Shape::Data(1024, 4), 1_049_658, false),
+    (Shape::Texts(1024), 525_370, false),
     // A reference and an offset that outgrow one byte.
-    (NUMBERS_254, 1823, Answer::Read, None),
-    (NUMBERS_255, 2085, Answer::Read, None),
-    (ZEROS_244, 288, Answer::Read, None),
-    (ZEROS_245, 290, Answer::Read, None),
-    // A key that is not a string, or one more string, after the maximum payload of a value.
-    (Shape::HeavyKeys(2), 1_050_689, NO_TEXT, Some((0, 0))),
-    (Shape::HeavyKeys(1), 1_050_689, HEAVY, Some((5, 0))),
+    (Shape::Numbers(254, 1), 1823, true),
+    (Shape::Numbers(255, 2), 2085, true),
+    (ZEROS_244, 288, true),
+    (ZEROS_245, 290, true),
 ];
 
-fn verdict(broken: Option<(u8, u64)>) -> Verdict {
-    match broken {
-        Some((rule, object)) => Verdict::Broken { rule, object },
-        None => Verdict::Canonical,
-    }
-}
+// Refused files, with their sizes, the fault, and the rule that the check finds broken, with the
+// object. It finds rule 0 broken at object 0 for a value beyond the limits, and reaches the
+// container of a tower a second time before it counts a node.
+const REFUSED: [(Shape, usize, BinaryFault, (u8, u64)); 12] = [
+    (Shape::Chain(513, 0x09), 2603, DEEP, (0, 0)),
+    (Shape::Chain(20_000, 0xa0), 100_038, DEEP, (0, 0)),
+    (Shape::LongChain(513), 4141, DEEP, (2, 0)),
+    (Shape::LongChain(1_000_000), 8_000_037, DEEP, (2, 0)),
+    (Shape::SharedChain, 3045, SHARED, (7, 600)),
+    (Shape::Tower, 162, TOWER, (7, 29)),
+    (Shape::TowerOfTables, 228, TABLES, (7, 0)),
+    (Shape::Flags(16_777_216), 16_777_271, WIDE, (0, 0)),
+    (Shape::Data(1025, 4), 1_049_659, HEAVY, (0, 0)),
+    (Shape::Texts(1025), 525_371, HEAVY, (0, 0)),
+    // A key that is not a string, or one more string, after the maximum payload of a value.
+    (Shape::HeavyKeys(2), 1_050_689, NO_TEXT, (0, 0)),
+    (Shape::HeavyKeys(1), 1_050_689, HEAVY, (5, 0)),
+];
 
 // Returns whether the bytes are the canonical file of their own value.
 fn is_own(alloc: Global, octets: &[u8]) -> Result<bool, Fail> {
@@ -222,38 +173,47 @@ pub(crate) fn is_refused(alloc: Global, octets: &[u8], fault: BinaryFault) -> bo
         && canonicalise(alloc, octets).err() == Some(Fault::Binary(fault))
 }
 
-// Returns whether the validator, the reader and `canonicalise` have this result.
-fn is_answered(alloc: Global, octets: &[u8], answer: Answer) -> Result<bool, Fail> {
-    if let Answer::Refused(fault) = answer {
-        return Ok(is_refused(alloc, octets, fault));
-    }
-    judge(alloc, octets)?;
-    let is_canonical = canonicalise(alloc, octets)?.as_slice() == octets;
-    match answer {
-        Answer::Read => Ok(is_canonical && is_own(alloc, octets)?),
-        _ => Ok(is_canonical),
-    }
-}
-
 #[test]
 fn files_at_the_limits(rt: HostRuntime) -> Result<(), Fail> {
-    for (index, (shape, size, answer, broken)) in ROWS.iter().enumerate() {
+    for (index, (shape, size, is_read)) in ACCEPTED.iter().enumerate() {
         let octets = shape.file(rt.alloc())?;
         let octets = octets.as_slice();
         assert_eq!(rt; octets.len(), *size, "row {index}");
-        let checked = check(rt.alloc(), octets);
-        assert_eq!(rt; checked, Ok(verdict(*broken)), "row {index}");
-        assert!(rt; is_answered(rt.alloc(), octets, *answer)?, "row {index}");
+        assert_eq!(rt;
+            check(rt.alloc(), octets),
+            Ok(Verdict::Canonical),
+            "row {index}"
+        );
+        judge(rt.alloc(), octets)?;
+        assert!(rt;
+            canonicalise(rt.alloc(), octets)?.as_slice() == octets,
+            "row {index}"
+        );
+        assert!(rt; !*is_read || is_own(rt.alloc(), octets)?, "row {index}");
+    }
+    Ok(())
+}
+
+#[test]
+fn files_beyond_the_limits(rt: HostRuntime) -> Result<(), Fail> {
+    for (index, (shape, size, fault, (rule, object))) in REFUSED.iter().enumerate() {
+        let octets = shape.file(rt.alloc())?;
+        let octets = octets.as_slice();
+        assert_eq!(rt; octets.len(), *size, "row {index}");
+        let (rule, object) = (*rule, *object);
+        let verdict = Verdict::Broken { rule, object };
+        assert_eq!(rt; check(rt.alloc(), octets), Ok(verdict), "row {index}");
+        assert!(rt; is_refused(rt.alloc(), octets, *fault), "row {index}");
     }
     Ok(())
 }
 
 // Files whose widths are not the least, and their canonical files.
 const SOURCES: [(Shape, Shape); 8] = [
-    (Shape::Numbers(254, 2), NUMBERS_254),
-    (Shape::Numbers(254, 3), NUMBERS_254),
-    (Shape::Numbers(255, 1), NUMBERS_255),
-    (Shape::Numbers(255, 3), NUMBERS_255),
+    (Shape::Numbers(254, 2), Shape::Numbers(254, 1)),
+    (Shape::Numbers(254, 3), Shape::Numbers(254, 1)),
+    (Shape::Numbers(255, 1), Shape::Numbers(255, 2)),
+    (Shape::Numbers(255, 3), Shape::Numbers(255, 2)),
     (Shape::Zeros(b"\x4f\x11\0\xf4", 244, 3), ZEROS_244),
     (Shape::Zeros(b"\x4f\x11\0\xf5", 245, 2), ZEROS_245),
     (Shape::Data(256, 3), Shape::Data(256, 4)),

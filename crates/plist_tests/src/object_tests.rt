@@ -1,27 +1,25 @@
-//! Single objects: how long they are, which are handed over in their encoding of the file, and that
-//! a failed put leaves the list unchanged.
+//! Single objects: where they are in a file, how long they are, which are handed over in their
+//! encoding of the file, and that a failed put leaves the list unchanged.
+use crate::worked_files::TABLE;
 use plist_object::{
-    BinFile, list_length, put_list, put_scalar, put_table, scalar_length, table_length, width_of,
+    BinFile, Object, list_length, put_list, put_scalar, put_table, scalar_length, table_length,
+    width_of,
 };
 use plist_value::{ScalarRef, TextRef, Whole};
 use std::alloc::AllocError;
 use std::test::Fail;
 use test_files::file_of;
 
-// Numbers, and the bytes that each takes.
-const WIDTHS: [(u64, u8); 8] = [
-    (0, 1),
-    (0xff, 1),
-    (0x100, 2),
-    (0xffff, 2),
-    (0x1_0000, 4),
-    (0xffff_ffff, 4),
-    (0x1_0000_0000, 8),
-    (u64::MAX, 8),
+// The least and the greatest number of each width.
+const WIDTHS: [(u8, [u64; 2]); 4] = [
+    (1, [0, 0xff]),
+    (2, [0x100, 0xffff]),
+    (4, [0x1_0000, 0xffff_ffff]),
+    (8, [0x1_0000_0000, u64::MAX]),
 ];
 
 // The bytes of a marker and a length, by the length.
-const HEADS: [(u16, u8); 5] = [(0, 1), (14, 1), (15, 3), (255, 3), (256, 4)];
+const HEADS: [(u16, u8); 6] = [(0, 1), (14, 1), (15, 3), (255, 3), (256, 4), (300, 4)];
 
 // Whole numbers, and the bytes of each.
 const WHOLES: [(i128, u64); 7] = [
@@ -59,8 +57,8 @@ fn has_head(count: u16, head: u8) -> bool {
 
 #[test]
 fn widths_and_lengths(rt: HostRuntime) -> Result<(), Fail> {
-    for (number, width) in WIDTHS {
-        assert!(rt; width_of(number) == width, "{number}");
+    for (width, [least, greatest]) in WIDTHS {
+        assert_eq!(rt; (width_of(least), width_of(greatest)), (width, width));
     }
     for (count, head) in HEADS {
         assert!(rt; has_head(count, head), "{count}");
@@ -80,13 +78,37 @@ fn widths_and_lengths(rt: HostRuntime) -> Result<(), Fail> {
     ] {
         assert!(rt; scalar_length(&scalar) == length, "{length}");
     }
-    // 15 and 300 letters.
-    for (count, length) in [(15, 18), (300, 304)] {
-        let text = LETTERS
-            .get(..count)
-            .and_then(TextRef::of_ascii)
-            .ok_or("ASCII")?;
-        assert!(rt; scalar_length(&ScalarRef::Text(text)) == length, "{count}");
+    Ok(())
+}
+
+// Returns the first reference to a key and the first to a value.
+fn first_pair(object: &Object) -> Option<(u64, u64)> {
+    match object {
+        Object::Table(keys, values) if keys.len() > 0 && values.len() > 0 => {
+            Some((keys.get(0), values.get(0)))
+        }
+        _ => None,
+    }
+}
+
+#[test]
+fn objects_and_trailer_of_a_file(rt: HostRuntime) -> Result<(), Fail> {
+    let file = BinFile::of(TABLE)?;
+    assert_eq!(rt;
+        (file.count(), file.top(), file.table(), file.slack()),
+        (3, 0, 17, [0; 6])
+    );
+    assert_eq!(rt; (file.offset_width(), file.reference_width()), (1, 1));
+    for (number, pair, span) in [
+        (0, Some((1, 2)), (8, 13)),
+        (1, None, (13, 15)),
+        (2, None, (15, 17)),
+    ] {
+        if number >= file.count() {
+            return Err(Fail::from("too few objects"));
+        }
+        assert_eq!(rt; first_pair(&file.object(number)?), pair);
+        assert_eq!(rt; (file.place(number), file.span(number)?), (span.0, span));
     }
     Ok(())
 }
@@ -121,11 +143,7 @@ fn spelled_of(octets: &[u8], object: u64) -> Option<&[u8]> {
 fn scalars_as_they_stand(rt: HostRuntime) -> Result<(), Fail> {
     let file = file_of(rt.alloc(), &OBJECTS, 1)?;
     for (index, object) in OBJECTS.iter().enumerate() {
-        let known = if matches!(index, 0 | 9 | 10) {
-            None
-        } else {
-            Some(*object)
-        };
+        let known = (!matches!(index, 0 | 9 | 10)).then_some(*object);
         assert_eq!(rt; spelled_of(file.as_slice(), index as u64), known, "{index}");
     }
     Ok(())

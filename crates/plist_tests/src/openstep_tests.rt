@@ -1,6 +1,6 @@
 //! OpenStep texts of more than one piece.
+use crate::depth::nested;
 use crate::devices::Noting;
-use crate::texts::nested;
 use plist_devices::{ListSink, Sink};
 use plist_forms::{Fault, Form, convert_octets, write_openstep};
 use plist_value::FixedHasher;
@@ -24,23 +24,12 @@ fn doubled(alloc: Global, last: &[u8]) -> Result<Vec<u8>, AllocError> {
 
 // Returns its text if the scalar is the string `c`.
 fn doubled_text(alloc: Global) -> Result<Vec<u8>, AllocError> {
-    let mut item = Vec::from_slice(alloc, b"{\na = b;\n}")?;
+    let mut item = format!(in alloc; "{{\na = b;\n}}")?;
     for _ in 0..10 {
-        item = list_text(alloc, item.as_slice(), item.as_slice())?;
+        item = format!(in alloc; "(\n{item},\n{item},\n)")?;
     }
-    let mut text = list_text(alloc, item.as_slice(), b"c")?;
-    text.push(b'\n')?;
-    Ok(text)
-}
-
-fn list_text(alloc: Global, first: &[u8], second: &[u8]) -> Result<Vec<u8>, AllocError> {
-    let mut text = Vec::from_slice(alloc, b"(\n")?;
-    for item in [first, second] {
-        text.extend_from_slice(item)?;
-        text.extend_from_slice(b",\n")?;
-    }
-    text.push(b')')?;
-    Ok(text)
+    let text = format!(in alloc; "(\n{item},\nc,\n)\n")?;
+    Vec::from_slice(alloc, text.as_bytes())
 }
 
 // Sends the text by one of the two calls.
@@ -60,7 +49,7 @@ fn a_long_text_is_sent_in_pieces(rt: HostRuntime) -> Result<(), Fail> {
     let deep = nested(alloc, &lines, 511)?;
     let rows = [
         (doubled(alloc, b"Qc")?, doubled_text(alloc)?),
-        (chain(alloc, 512, b"Qa")?, deep),
+        (chain(alloc, 512, b"Qa", [2, 2])?, deep),
     ];
     for (file, text) in rows {
         for octets in [file.as_slice(), text.as_slice()] {

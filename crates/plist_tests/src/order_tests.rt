@@ -6,12 +6,19 @@ use std::alloc::{AllocError, Global};
 use std::test::Fail;
 use test_files::Draft;
 
-// Appends an array of this number of references, from 256 to 65,535, to one object.
-fn put_fan(draft: &mut Draft, alloc: Global, count: u16, object: u16) -> Result<(), AllocError> {
+// Appends an array of references, of each object this number of times, which are `count` in all.
+fn put_fan(
+    draft: &mut Draft,
+    alloc: Global,
+    count: u16,
+    references: &[(u16, u16)],
+) -> Result<(), AllocError> {
     let mut list = Vec::from_slice(alloc, b"\xaf\x11")?;
     list.extend_from_slice(&count.to_be_bytes())?;
-    for _ in 0..count {
-        list.extend_from_slice(&object.to_be_bytes())?;
+    for (object, times) in references {
+        for _ in 0..*times {
+            list.extend_from_slice(&object.to_be_bytes())?;
+        }
     }
     draft.put(list.as_slice())
 }
@@ -20,10 +27,7 @@ fn put_fan(draft: &mut Draft, alloc: Global, count: u16, object: u16) -> Result<
 // each contain the next object precede it.
 fn deep(alloc: Global, objects: &[&[u8]]) -> Result<Vec<u8>, AllocError> {
     let mut draft = Draft::new(alloc)?;
-    for i in 1..512u16 {
-        let [high, low] = i.to_be_bytes();
-        draft.put(&[0xa1, high, low])?;
-    }
+    draft.put_chain(1..512, 2)?;
     for object in objects {
         draft.put(object)?;
     }
@@ -42,46 +46,19 @@ const FLAG: u16 = 602;
 // before object 1.
 fn full(alloc: Global, objects: &[&[u8]]) -> Result<Vec<u8>, AllocError> {
     let mut draft = Draft::new(alloc)?;
-    let mut top = Vec::from_slice(alloc, b"\xaf\x11\x0e\x01")?;
-    top.extend_from_slice(&WIDE.to_be_bytes())?;
-    for _ in 0..3583 {
-        top.extend_from_slice(&FLAG.to_be_bytes())?;
-    }
-    top.extend_from_slice(&1u16.to_be_bytes())?;
-    draft.put(top.as_slice())?;
-    for i in 2..512u16 {
-        let [high, low] = i.to_be_bytes();
-        draft.put(&[0xa1, high, low])?;
-    }
+    put_fan(&mut draft, alloc, 3585, &[(WIDE, 1), (FLAG, 3583), (1, 1)])?;
+    draft.put_chain(2..512, 2)?;
     for object in objects {
         draft.put(object)?;
     }
     for _ in 511 + objects.len()..600 {
         draft.put(b"\x08")?;
     }
-    put_fan(&mut draft, alloc, 4095, FLAGS)?;
-    put_fan(&mut draft, alloc, 4095, FLAG)?;
+    put_fan(&mut draft, alloc, 4095, &[(FLAGS, 4095)])?;
+    put_fan(&mut draft, alloc, 4095, &[(FLAG, 4095)])?;
     draft.put(b"\x09")?;
     draft.finish(4, 2)
 }
-
-// The objects from number 511 on.
-type Objects = &'static [&'static [u8]];
-
-// A reference to no object, and one to the top array.
-const NO_OBJECT: Objects = &[b"\xa1\xff\xff"];
-
-const TOP: Objects = &[b"\xa1\0\0"];
-
-// A reference to a boolean, and one to a null.
-const ONE: Objects = &[b"\xa1\x02\x00", b"\x09"];
-
-const NULL: Objects = &[b"\xa1\x02\x00", b"\x00"];
-
-// A dictionary whose key is a boolean, and one with a duplicate key.
-const KEY: Objects = &[b"\xd1\x02\x00\x02\x00", b"\x09"];
-
-const TWICE: Objects = &[b"\xd2\x02\x00\x02\x01\x02\x00\x02\x00", b"Qa", b"Qa"];
 
 const REFERENCE: BinaryFault = BinaryFault::BadReference { object: 511 };
 
@@ -92,14 +69,20 @@ const DEEP: BinaryFault = BinaryFault::TooDeep { object: 512 };
 const NODES: BinaryFault = BinaryFault::TooManyNodes { object: 512 };
 
 // The objects from number 511 on, the refusal if all are at the depth limit (`deep`), and the
-// refusal if they also come after the last node allowed (`full`).
-const ROWS: [(Objects, BinaryFault, BinaryFault); 6] = [
-    (NO_OBJECT, REFERENCE, REFERENCE),
-    (TOP, CYCLE, CYCLE),
-    (ONE, DEEP, NODES),
-    (NULL, DEEP, NODES),
-    (KEY, DEEP, NODES),
-    (TWICE, DEEP, NODES),
+// refusal if they also come after the last node allowed (`full`): references to no object, to the
+// top array, to a boolean and to a null, and dictionaries with a boolean as key and with one key
+// twice.
+const ROWS: [(&[&[u8]], BinaryFault, BinaryFault); 6] = [
+    (&[b"\xa1\xff\xff"], REFERENCE, REFERENCE),
+    (&[b"\xa1\0\0"], CYCLE, CYCLE),
+    (&[b"\xa1\x02\x00", b"\x09"], DEEP, NODES),
+    (&[b"\xa1\x02\x00", b"\x00"], DEEP, NODES),
+    (&[b"\xd1\x02\x00\x02\x00", b"\x09"], DEEP, NODES),
+    (
+        &[b"\xd2\x02\x00\x02\x01\x02\x00\x02\x00", b"Qa", b"Qa"],
+        DEEP,
+        NODES,
+    ),
 ];
 
 #[test]

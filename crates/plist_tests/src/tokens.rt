@@ -33,14 +33,6 @@ fn a_step_at_a_time(rt: HostRuntime) -> Result<(), Fail> {
     Ok(())
 }
 
-// Returns where the punctuation mark begins and ends, if only whitespace precedes it.
-fn mark_of(octets: &[u8], mark: char) -> Result<Option<(usize, usize)>, LexFault> {
-    match next_mark(open(octets)?, mark) {
-        Some((token, _)) => Ok(Some((token.start, token.end))),
-        None => Ok(None),
-    }
-}
-
 // An input, a punctuation mark, and where it begins and ends if it is read.
 const MARKS: [(&[u8], char, Option<(usize, usize)>); 5] = [
     (b" \t= 1", '=', Some((2, 3))),
@@ -52,8 +44,9 @@ const MARKS: [(&[u8], char, Option<(usize, usize)>); 5] = [
 
 #[test]
 fn a_mark_after_whitespace_alone(rt: HostRuntime) -> Result<(), Fail> {
-    for (octets, mark, offset) in MARKS {
-        assert_eq!(rt; mark_of(octets, mark)?, offset);
+    for (octets, mark, span) in MARKS {
+        let found = next_mark(open(octets)?, mark).map(|(token, _)| (token.start, token.end));
+        assert_eq!(rt; found, span);
     }
     Ok(())
 }
@@ -91,9 +84,7 @@ fn a_string_where_it_stands(rt: HostRuntime) -> Result<(), Fail> {
 }
 
 // An input that begins with a string, the units of the string, and the offset after it.
-type UnitsRow = (&'static [u8], &'static [u16], usize);
-
-const UNITS: [UnitsRow; 5] = [
+const UNITS: [(&[u8], &[u16], usize); 5] = [
     (b" \"a\\n\\\"b\" ", &[0x61, 0xa, 0x22, 0x62], 9),
     (b"x;", &[0x78], 1),
     (b"'\xc3\xa9'", &[0xe9], 4),
@@ -104,32 +95,22 @@ const UNITS: [UnitsRow; 5] = [
 #[test]
 fn a_string_by_its_units(rt: HostRuntime) -> Result<(), Fail> {
     for (octets, wanted, offset) in UNITS {
-        let Some((token, behind)) = next_token(rt.alloc(), open(octets)?)? else {
-            return Err(Fail::from("it is no string"));
-        };
+        let (token, behind) = next_token(rt.alloc(), open(octets)?)?.ok_or("no token")?;
         let TokenKind::Text(text) = token.kind else {
             return Err(Fail::from("it is no string"));
         };
-        assert_eq!(rt; text.units(), wanted);
-        assert_eq!(rt; behind.offset(), offset);
+        assert_eq!(rt; (text.units(), behind.offset()), (wanted, offset));
     }
     Ok(())
 }
 
-// With each allocation refused in turn: out of memory, or the same result as with ample memory.
+// Also with each allocation refused in turn.
 #[test]
 fn a_refused_growth_changes_no_answer(rt: HostRuntime) -> Result<(), Fail> {
-    match tokens(rt.alloc(), TABLE) {
-        Ok(found) => {
-            let printed = format!(in rt.alloc(); "{found:?}")?;
-            assert_eq!(rt; printed.as_str(), TABLE_TOKENS);
-        }
-        Err(fault) => assert!(rt; fault == LexFault::OutOfMemory, "a valid text is refused"),
-    }
-    match tokens(rt.alloc(), b"@") {
-        Ok(_) => return Err(Fail::from("it is refused")),
-        Err(LexFault::OutOfMemory) => {}
-        Err(fault) => assert_eq!(rt; fault, LexFault::UnexpectedCharacter { octet: 0 }),
-    }
+    let found = tokens(rt.alloc(), TABLE)?;
+    let printed = format!(in rt.alloc(); "{found:?}")?;
+    assert_eq!(rt; printed.as_str(), TABLE_TOKENS);
+    let fault = tokens(rt.alloc(), b"@").err();
+    assert_eq!(rt; fault, Some(LexFault::UnexpectedCharacter { octet: 0 }));
     Ok(())
 }

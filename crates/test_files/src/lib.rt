@@ -5,6 +5,7 @@ pub mod devices;
 pub mod worked_files;
 
 use std::alloc::{AllocError, Global};
+use std::ops::Range;
 
 /// A binary file that is built object by object. The first is its top object.
 #[derive(Drop)]
@@ -26,6 +27,19 @@ impl Draft {
     pub fn put(&mut self, object: &[u8]) -> Result<(), AllocError> {
         self.offsets.push(self.octets.len() as u64)?;
         self.octets.extend_from_slice(object)
+    }
+
+    /// Appends an array for each of these object numbers, which contains that object, with a
+    /// reference of `width` bytes.
+    pub fn put_chain(&mut self, numbers: Range<u32>, width: u8) -> Result<(), AllocError> {
+        for number in numbers {
+            self.offsets.push(self.octets.len() as u64)?;
+            self.octets.push(0xa1)?;
+            let skipped = 4 - usize::from(width.min(4));
+            self.octets
+                .extend_from_slice(&number.to_be_bytes()[skipped..])?;
+        }
+        Ok(())
     }
 
     /// Returns the file, with offsets and references of the given widths in bytes.
@@ -106,16 +120,19 @@ pub fn put_trailer(
     file.extend_from_slice(&table.to_be_bytes())
 }
 
-/// Returns `count` objects: arrays that each contain the next object, and `last`. Offsets and
-/// references have two bytes.
-pub fn chain(alloc: Global, count: u16, last: &[u8]) -> Result<Vec<u8>, AllocError> {
+/// Returns `count` objects: arrays that each contain the next object, and `last`. An offset and a
+/// reference have these widths.
+pub fn chain(
+    alloc: Global,
+    count: u32,
+    last: &[u8],
+    widths: [u8; 2],
+) -> Result<Vec<u8>, AllocError> {
+    let [offset_width, reference_width] = widths;
     let mut draft = Draft::new(alloc)?;
-    for i in 1..count {
-        let [high, low] = i.to_be_bytes();
-        draft.put(&[0xa1, high, low])?;
-    }
+    draft.put_chain(1..count, reference_width)?;
     draft.put(last)?;
-    draft.finish(2, 2)
+    draft.finish(offset_width, reference_width)
 }
 
 /// Returns an array of `count` references (at least 256) to one other object, with offsets of
