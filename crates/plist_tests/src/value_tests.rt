@@ -1,7 +1,9 @@
-//! Copies of values and of strings, and strings as keys of a map.
+//! Copies of values, and strings, compared and as keys of a map.
 use crate::worked_files::TABLE_TEXT;
 use ostep_text::read_text;
-use plist_value::{ScalarRef, TextRef, Utf16, Value, Whole, copy, fits, same};
+use plist_value::{
+    MAX_DEPTH, MAX_NODES, MAX_PAYLOAD, ScalarRef, TextRef, Utf16, Value, Whole, copy, fits, same,
+};
 use std::alloc::{AllocError, Global};
 use std::collections::{BTreeMap, HashMap};
 use std::test::Fail;
@@ -23,25 +25,16 @@ fn values(alloc: Global) -> Result<Vec<Value>, Fail> {
     Ok(values)
 }
 
-// Returns the indices of the first two values such that the copy of one wrongly equals the other,
-// or wrongly differs.
-fn wrong_pair(alloc: Global, values: &[Value]) -> Result<Option<(usize, usize)>, AllocError> {
-    for (i, value) in values.iter().enumerate() {
-        let again = copy(alloc, value)?;
-        for (k, other) in values.iter().enumerate() {
-            if same(&again, other) != (i == k) {
-                return Ok(Some((i, k)));
-            }
-        }
-    }
-    Ok(None)
-}
-
 #[test]
 fn copies_are_equal(rt: HostRuntime) -> Result<(), Fail> {
     let alloc = rt.alloc();
     let values = values(alloc)?;
-    assert_eq!(rt; wrong_pair(alloc, values.as_slice())?, None);
+    for (i, value) in values.iter().enumerate() {
+        let again = copy(alloc, value)?;
+        for (k, other) in values.iter().enumerate() {
+            assert_eq!(rt; same(&again, other), i == k, "{i}, {k}");
+        }
+    }
     let list = Value::List(values);
     let copied = copy(alloc, &list)?;
     assert!(rt; same(&copied, &list) && fits(&copied));
@@ -50,31 +43,126 @@ fn copies_are_equal(rt: HostRuntime) -> Result<(), Fail> {
     Ok(())
 }
 
-// Returns the scalars that a map finds, of these, if it has only the one.
-fn found(alloc: Global, held: ScalarRef, wanted: &[ScalarRef]) -> Result<Vec<bool>, AllocError> {
-    let mut map = HashMap::new(alloc);
-    drop(map.insert(held, ())?);
-    let mut found = Vec::new(alloc);
-    for scalar in wanted {
-        found.push(map.contains_key(scalar))?;
+#[test]
+fn limits_and_what_values_are_made_of(rt: HostRuntime) -> Result<(), Fail> {
+    let limits: (u64, u64, u64) = (MAX_NODES, MAX_DEPTH, MAX_PAYLOAD);
+    assert_eq!(rt; limits, (16_777_216, 512, 1_073_741_824));
+    assert_eq!(rt; Whole::new(5).map(|number| number.get()), Some(5));
+    let text = TextRef::of_units(&[0x61]);
+    if text.is_empty() {
+        return Err(Fail::from("it has a unit"));
     }
-    Ok(found)
+    assert_eq!(rt; text.unit(0), 0x61);
+    assert!(rt; ScalarRef::of(&Value::Flag(true)) == Some(ScalarRef::Flag(true)));
+    Ok(())
 }
 
 // A string is found however it is stored, and neither another nor data of the same bytes.
 #[test]
 fn strings_are_keys_however_they_are_stored(rt: HostRuntime) -> Result<(), Fail> {
-    let alloc = rt.alloc();
-    let ascii = ScalarRef::Text(TextRef::of_ascii(b"ab").ok_or("ASCII")?);
-    let wide = ScalarRef::Text(TextRef::of_wide(b"\0a\0b").ok_or("an even length")?);
-    let units = ScalarRef::Text(TextRef::of_units(&[0x61, 0x62]));
-    let other = ScalarRef::Text(TextRef::of_wide(b"ab").ok_or("an even length")?);
-    let data = ScalarRef::Bytes(b"ab");
-    for held in [ascii, wide, units] {
-        let found = found(alloc, held, &[ascii, wide, units, other, data])?;
-        assert!(rt; found.as_slice() == [true, true, true, false, false].as_slice());
+    let scalars = [
+        ScalarRef::Text(TextRef::of_ascii(b"ab").ok_or("ASCII")?),
+        ScalarRef::Text(TextRef::of_wide(b"\0a\0b").ok_or("an even length")?),
+        ScalarRef::Text(TextRef::of_units(&[0x61, 0x62])),
+        ScalarRef::Text(TextRef::of_wide(b"ab").ok_or("an even length")?),
+        ScalarRef::Bytes(b"ab"),
+    ];
+    for (i, held) in scalars.iter().enumerate() {
+        let mut map = HashMap::new(rt.alloc());
+        drop(map.insert(*held, ())?);
+        for (k, wanted) in scalars.iter().enumerate() {
+            let is_same = i == k || i < 3 && k < 3;
+            assert_eq!(rt; map.contains_key(wanted), is_same, "{i}, {k}");
+        }
     }
-    let found = found(alloc, data, &[ascii, wide, units, other, data])?;
-    assert!(rt; found.as_slice() == [false, false, false, false, true].as_slice());
+    Ok(())
+}
+
+// What two strings end with, and how many units of that both share. In two rows only bytes of the
+// units are alike.
+const ENDS: [(&[u16], &[u16], usize); 7] = [
+    (&[], &[], usize::MAX),
+    (&[0x78], &[], 0),
+    (&[0x78], &[0x79], 0),
+    (&[0x78], &[0x178], 0),
+    (&[0x78], &[0x7800], 0),
+    (&[0x78, 0x79], &[0x78, 0x7a], 1),
+    (&[0xd83d, 0x79], &[0xd83d, 0x79, 0x79], 2),
+];
+
+// The units of a string, their bytes, and the lower byte of each.
+#[derive(Drop)]
+struct Units {
+    units: Vec<u16>,
+    pairs: Vec<u8>,
+    lower: Vec<u8>,
+}
+
+impl Units {
+    // Returns `front` units, these units, and `rest` units.
+    fn of(alloc: Global, front: u16, end: &[u16], rest: usize) -> Result<Units, AllocError> {
+        let mut units = Vec::new(alloc);
+        for i in 0..front {
+            units.push(0x41 + i % 50)?;
+        }
+        units.extend_from_slice(end)?;
+        let size = units.len().saturating_add(rest);
+        units.resize(size, 0x61)?;
+        let (mut pairs, mut lower) = (Vec::new(alloc), Vec::new(alloc));
+        for unit in &units {
+            let [high, low] = unit.to_be_bytes();
+            pairs.extend_from_slice(&[high, low])?;
+            lower.push(low)?;
+        }
+        Ok(Units {
+            units,
+            pairs,
+            lower,
+        })
+    }
+
+    // Returns the string, as it is stored in each way that can store it.
+    fn stored(&self) -> [Option<TextRef<'_>>; 3] {
+        let text = TextRef::of_units(self.units.as_slice());
+        let ascii = if text.is_ascii() {
+            TextRef::of_ascii(self.lower.as_slice())
+        } else {
+            None
+        };
+        [Some(text), TextRef::of_wide(self.pairs.as_slice()), ascii]
+    }
+}
+
+// Returns the first limit up to which strings that share this number of units are not alike in it,
+// however they are stored.
+fn wrong_limit(units: &Units, others: &Units, shared: usize) -> Option<usize> {
+    for text in units.stored() {
+        for other in others.stored() {
+            if let (Some(text), Some(other)) = (text, other) {
+                for most in 0..=text.len().min(other.len()) {
+                    let count = shared.min(most);
+                    if text.alike(&other, most) != count || other.alike(&text, most) != count {
+                        return Some(most);
+                    }
+                }
+            }
+        }
+    }
+    None
+}
+
+#[test]
+fn strings_are_alike_up_to_a_difference(rt: HostRuntime) -> Result<(), Fail> {
+    for front in [0, 1, 31, 32, 33, 64, 100] {
+        for (end, other, shared) in ENDS {
+            for rest in [0, 40] {
+                let units = Units::of(rt.alloc(), front, end, rest)?;
+                let others = Units::of(rt.alloc(), front, other, rest)?;
+                let shared = shared.saturating_add(usize::from(front));
+                let wrong = wrong_limit(&units, &others, shared);
+                assert_eq!(rt; wrong, None, "{front}, {end:?}, {other:?}, {rest}");
+            }
+        }
+    }
     Ok(())
 }
