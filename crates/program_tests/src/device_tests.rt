@@ -3,8 +3,10 @@ use crate::host_tests::holds;
 use crate::strict::{Strict, StrictHost, TAKE};
 use crate::words::{printed_of, words_of};
 use plist_canon::{write_canonical, write_canonical_with_hasher};
-use plist_convert::{Form, ReaderSource, WriterSink, convert, load, read_any, run, run_to_end};
-use plist_devices::{Sink, Source, put_all};
+use plist_convert::{
+    Form, ReaderSource, Source, WriterSink, convert, load, read_any, run, run_to_end,
+};
+use plist_devices::{Sink, put_all};
 use plist_forms::{convert_octets, convert_with_hasher, load_unless, print, write_openstep};
 use plist_value::FixedHasher;
 use std::alloc::{AllocError, Global};
@@ -21,18 +23,18 @@ struct Forms {
     printed: Vec<u8>,
 }
 
-// Returns the digits of `count` bytes of the data.
-fn digits(alloc: Global, count: usize) -> Result<Vec<u8>, AllocError> {
-    let mut text = Vec::new(alloc);
+// Appends the digits of `count` bytes of the data.
+fn put_digits(text: &mut Vec<u8>, count: u16) -> Result<(), AllocError> {
     for _ in 0..count {
         text.extend_from_slice(b"07")?;
     }
-    Ok(text)
+    Ok(())
 }
 
-fn file_of_data(alloc: Global) -> Result<Vec<u8>, AllocError> {
-    let mut data = Vec::from_slice(alloc, b"\x4f\x11\x13\x88")?;
-    data.resize(5004, 7)?;
+// Returns the file of the data, with this marker and count.
+pub(crate) fn file_of_data(alloc: Global, head: &[u8]) -> Result<Vec<u8>, AllocError> {
+    let mut data = Vec::from_slice(alloc, head)?;
+    data.extend_from_slice(&[7; 5000])?;
     let mut draft = Draft::new(alloc)?;
     draft.put(data.as_slice())?;
     draft.finish(2, 1)
@@ -44,7 +46,7 @@ fn print_of_data(alloc: Global) -> Result<Vec<u8>, AllocError> {
     for line in 0..157 {
         let count = if line < 156 { 32 } else { 8 };
         printed.extend_from_slice(b"  ")?;
-        printed.extend_from_slice(digits(alloc, count)?.as_slice())?;
+        put_digits(&mut printed, count)?;
         printed.push(b'\n')?;
     }
     printed.extend_from_slice(b">\n")?;
@@ -53,14 +55,14 @@ fn print_of_data(alloc: Global) -> Result<Vec<u8>, AllocError> {
 
 fn forms_of_data(alloc: Global) -> Result<Forms, AllocError> {
     let mut text = Vec::from_slice(alloc, b"<")?;
-    text.extend_from_slice(digits(alloc, 5000)?.as_slice())?;
+    put_digits(&mut text, 5000)?;
     text.push(b'>')?;
     let mut written = Vec::from_slice(alloc, text.as_slice())?;
     written.push(b'\n')?;
     Ok(Forms {
         text,
         written,
-        file: file_of_data(alloc)?,
+        file: file_of_data(alloc, b"\x4f\x11\x13\x88")?,
         printed: print_of_data(alloc)?,
     })
 }
@@ -79,106 +81,88 @@ enum Call {
     Print,
 }
 
-// What a call puts: its input, or its value in another form.
-#[derive(Clone, Copy)]
-enum Put {
-    Input,
-    File,
-    Written,
-    Printed,
-}
-
 impl Forms {
-    // Returns the bytes that are put for this input.
-    fn put_for<'a>(&'a self, put: Put, input: &'a [u8]) -> &'a [u8] {
-        match put {
-            Put::Input => input,
-            Put::File => self.file.as_slice(),
-            Put::Written => self.written.as_slice(),
-            Put::Printed => self.printed.as_slice(),
+    // Returns the bytes that the call puts for this input: the input, or its value in another form.
+    fn put_by<'a>(&'a self, call: Call, input: &'a [u8]) -> &'a [u8] {
+        match call {
+            Call::Load | Call::LoadUnless => input,
+            Call::Convert(Form::OpenStep)
+            | Call::ConvertWithHasher(Form::OpenStep)
+            | Call::ConvertOctets(Form::OpenStep)
+            | Call::WriteOpenStep => self.written.as_slice(),
+            Call::Print => self.printed.as_slice(),
+            _ => self.file.as_slice(),
         }
     }
 }
 
-const CALLS: [(Call, Put); 12] = [
-    (Call::Load, Put::Input),
-    (Call::LoadUnless, Put::Input),
-    (Call::Convert(Form::Binary1), Put::File),
-    (Call::Convert(Form::OpenStep), Put::Written),
-    (Call::ConvertWithHasher(Form::Binary1), Put::File),
-    (Call::ConvertWithHasher(Form::OpenStep), Put::Written),
-    (Call::ConvertOctets(Form::Binary1), Put::File),
-    (Call::ConvertOctets(Form::OpenStep), Put::Written),
-    (Call::WriteCanonical, Put::File),
-    (Call::WriteCanonicalWithHasher, Put::File),
-    (Call::WriteOpenStep, Put::Written),
-    (Call::Print, Put::Printed),
+const CALLS: [Call; 12] = [
+    Call::Load,
+    Call::LoadUnless,
+    Call::Convert(Form::Binary1),
+    Call::Convert(Form::OpenStep),
+    Call::ConvertWithHasher(Form::Binary1),
+    Call::ConvertWithHasher(Form::OpenStep),
+    Call::ConvertOctets(Form::Binary1),
+    Call::ConvertOctets(Form::OpenStep),
+    Call::WriteCanonical,
+    Call::WriteCanonicalWithHasher,
+    Call::WriteOpenStep,
+    Call::Print,
 ];
 
-// Makes the call on this input. Returns the number of bytes that its takes ask for, 0 if it makes
-// none.
+// Makes the call on this input, from this source or from the bytes.
 fn make<S: Source, W: Sink>(
     alloc: Global,
     call: Call,
     octets: &[u8],
     from: &mut S,
     to: &mut W,
-) -> Result<usize, Fail> {
-    let hasher = FixedHasher::new();
+) -> Result<(), Fail> {
+    let (hasher, value) = (FixedHasher::new(), read_any(alloc, octets)?);
     match call {
         Call::Load => put_all(load(alloc, from)?.as_slice(), to)?,
         Call::LoadUnless => {
             let found = load_unless(alloc, from, b"<07")?.ok_or("other bytes")?;
             put_all(found.as_slice(), to)?;
         }
-        Call::Convert(form) => {
-            convert(alloc, from, to, form)?;
-        }
-        Call::ConvertWithHasher(form) => {
-            convert_with_hasher(alloc, hasher, from, to, form)?;
-        }
-        other => {
-            send(alloc, other, octets, to)?;
-            return Ok(0);
-        }
-    }
-    Ok(TAKE)
-}
-
-// Makes a call that sends what it gets.
-fn send<W: Sink>(alloc: Global, call: Call, octets: &[u8], to: &mut W) -> Result<u64, Fail> {
-    let hasher = FixedHasher::new();
-    let value = read_any(alloc, octets)?;
-    match call {
+        Call::Convert(form) => drop(convert(alloc, from, to, form)?),
+        Call::ConvertWithHasher(form) => drop(convert_with_hasher(alloc, hasher, from, to, form)?),
         Call::ConvertOctets(form) => {
             let loaded = Vec::from_slice(alloc, octets)?;
-            Ok(convert_octets(alloc, hasher, loaded, to, form)?)
+            drop(convert_octets(alloc, hasher, loaded, to, form)?);
         }
-        Call::WriteCanonical => Ok(write_canonical(alloc, &value, to)?),
+        Call::WriteCanonical => drop(write_canonical(alloc, &value, to)?),
         Call::WriteCanonicalWithHasher => {
-            Ok(write_canonical_with_hasher(alloc, hasher, &value, to)?)
+            drop(write_canonical_with_hasher(alloc, hasher, &value, to)?);
         }
-        Call::WriteOpenStep => Ok(write_openstep(alloc, octets, to)?),
-        _ => Ok(print(alloc, octets, to)?),
+        Call::WriteOpenStep => drop(write_openstep(alloc, octets, to)?),
+        Call::Print => drop(print(alloc, octets, to)?),
     }
+    Ok(())
 }
 
-// Returns whether the call puts these bytes, and asks for the right number of bytes at a time.
+// Returns whether the call puts these bytes, and asks for the right number of bytes at a time: none
+// if it has them.
 fn is_made(alloc: Global, call: Call, octets: &[u8], put: &[u8]) -> Result<bool, Fail> {
     let mut reader = Strict::over(octets);
     let mut writer = Strict::over(Vec::new(alloc));
     let mut source = ReaderSource::new(&mut reader);
     let mut sink = WriterSink::new(&mut writer);
-    let asked = make(alloc, call, octets, &mut source, &mut sink)?;
+    make(alloc, call, octets, &mut source, &mut sink)?;
+    let asked = match call {
+        Call::Load | Call::LoadUnless | Call::Convert(_) | Call::ConvertWithHasher(_) => TAKE,
+        _ => 0,
+    };
     Ok(reader.longest == asked && writer.device.as_slice() == put)
 }
 
 #[test]
 fn calls_take_4096_bytes_and_never_flush(rt: HostRuntime) -> Result<(), Fail> {
     let forms = forms_of_data(rt.alloc())?;
-    for (call, put) in CALLS {
+    for call in CALLS {
         for octets in [forms.text.as_slice(), forms.file.as_slice()] {
-            assert!(rt; is_made(rt.alloc(), call, octets, forms.put_for(put, octets))?);
+            assert!(rt; is_made(rt.alloc(), call, octets, forms.put_by(call, octets))?);
         }
     }
     Ok(())

@@ -6,13 +6,14 @@ use crate::words::{printed_of, words_of};
 use crate::worked_files::{TABLE, UNSORTED, WRITTEN_TEXT};
 use plist_convert::{run, run_to_end};
 use std::cell::Cell;
-use std::fs;
 use std::io::{ErrorKind, Read, Write};
+use std::random::RandomSource;
+use std::rt::Files;
 use std::test::Fail;
 
 // Runs the program by the call that ends with it, or by the other. Returns its exit status.
-fn ran<I: Read, O: Write>(
-    host: &StrictHost,
+fn ran<R: Files + RandomSource, I: Read, O: Write>(
+    host: &R,
     rt: &HostRuntime,
     words: &[&str],
     input: &mut I,
@@ -26,36 +27,63 @@ fn ran<I: Read, O: Write>(
     }
 }
 
-// Returns whether the row has its result over the host, by both calls, and leaves standard input.
-fn is_answered(rt: &HostRuntime, host: &StrictHost, row: &str) -> Result<bool, Fail> {
+// Returns whether the row has its result over the host, by both calls, leaves standard input, and
+// leaves these bytes at the path `old`.
+fn is_answered<R: Files + RandomSource>(
+    rt: &HostRuntime,
+    host: &R,
+    row: &str,
+    left: &[u8],
+) -> Result<bool, Fail> {
     for to_end in [false, true] {
         put_files(rt)?;
         let words = words_of(rt.alloc(), row)?;
         let mut input: &[u8] = b"more\n";
         let mut output = Vec::new(rt.alloc());
         let status = ran(host, rt, words.as_slice(), &mut input, &mut output, to_end);
-        if printed_of(row, status) != Some(output.as_slice()) || input != b"more\n".as_slice() {
+        let is_right = printed_of(row, status) == Some(output.as_slice());
+        if !is_right || input != b"more\n".as_slice() || !holds(rt, "old", left)? {
             return Ok(false);
         }
     }
     Ok(true)
 }
 
-// A run of each command. Where two paths are given, they are different.
-const COMMANDS: [&str; 13] = [
-    "convert binary1 row2.txt old|0 ",
-    "convert openstep row2.bin old|0 ",
-    "convert binary1 twice.txt old|2 twice.txt: refused 14 DuplicateKey at octet 3\n",
-    "same row2.txt row2.bin|0 equal\n",
-    "same real4.bin real8.bin|1 different\n",
-    "lint row2.txt|0 row2.txt: OK\n",
-    "lint row2.txt row2.bin|0 row2.txt: OK\nrow2.bin: OK\n",
-    "check row2.bin|0 canonical\n",
-    "check unsorted.bin row2.bin|1 unsorted.bin: broken C5 at object 0\nrow2.bin: canonical\n",
-    "print real4.bin|0 1.0f\n",
-    "explain 014|3 error: '014' is no refusal and no rule: plistconv explain lists them\n",
-    "same row2.txt missing|4 missing: refused 50 ReadFailed\n",
-    "--version|0 plistconv 0.3.0\n",
+// Runs of each command, by what is at `old` then. Where two paths are given, they are different.
+const COMMANDS: [(&[u8], &[&str]); 3] = [
+    (
+        TABLE,
+        &[
+            "convert binary1 row2.txt old|0 ",
+            "convert binary1 unsorted.bin old|0 ",
+        ],
+    ),
+    (
+        WRITTEN_TEXT,
+        &[
+            "convert openstep row2.bin old|0 ",
+            "convert openstep row2.txt old|0 ",
+        ],
+    ),
+    (
+        b"old",
+        &[
+            "convert binary1 twice.txt old|2 twice.txt: refused 14 DuplicateKey at octet 3\n",
+            "convert openstep true.bin old|2 true.bin: refused 40 NotInOpenStep\n",
+            "convert binary1 missing old|4 missing: refused 50 ReadFailed\n",
+            "same row2.txt row2.bin|0 equal\n",
+            "same real4.bin real8.bin|1 different\n",
+            "lint row2.txt|0 row2.txt: OK\n",
+            "lint row2.txt row2.bin|0 row2.txt: OK\nrow2.bin: OK\n",
+            "check row2.bin|0 canonical\n",
+            "check unsorted.bin row2.bin|1 unsorted.bin: broken C5 at object 0\n\
+                row2.bin: canonical\n",
+            "print real4.bin|0 1.0f\n",
+            "explain 014|3 error: '014' is no refusal and no rule: plistconv explain lists them\n",
+            "same row2.txt missing|4 missing: refused 50 ReadFailed\n",
+            "--version|0 plistconv 0.3.0\n",
+        ],
+    ),
 ];
 
 // Each path is opened once. The second time it would be missing.
@@ -66,12 +94,15 @@ fn each_path_is_opened_once(rt: HostRuntime) -> Result<(), Fail> {
         removes: true,
         ..StrictHost::over(&rt)
     };
-    for row in COMMANDS {
-        assert!(rt; is_answered(&rt, &good, row)?, "{row}");
-        assert!(rt; is_answered(&rt, &once, row)?, "{row}, once");
+    for (left, rows) in COMMANDS {
+        for row in rows.iter() {
+            assert!(rt; is_answered(&rt, &rt, row, left)?, "{row}, not strict");
+            assert!(rt; is_answered(&rt, &good, row, left)?, "{row}");
+            assert!(rt; is_answered(&rt, &once, row, left)?, "{row}, once");
+        }
     }
     let twice = "lint row2.bin row2.bin|4 row2.bin: OK\nrow2.bin: refused 50 ReadFailed\n";
-    assert!(rt; is_answered(&rt, &once, twice)?);
+    assert!(rt; is_answered(&rt, &once, twice, b"old")?);
     put_files(&rt)?;
     remove_files(&rt)
 }
@@ -99,15 +130,15 @@ fn a_read_that_fails_once_is_50(rt: HostRuntime) -> Result<(), Fail> {
             ..StrictHost::over(&rt)
         };
         for row in READS {
-            assert!(rt; is_answered(&rt, &unopened, row)?, "{row}");
+            assert!(rt; is_answered(&rt, &unopened, row, b"old")?, "{row}");
             for number in [1, 2] {
                 let broken = StrictHost {
                     read: Transfers::failing(number, kind),
                     ..StrictHost::over(&rt)
                 };
-                assert!(rt; is_answered(&rt, &broken, row)?, "{row}, read {number}");
+                let is_50 = is_answered(&rt, &broken, row, b"old")?;
+                assert!(rt; is_50, "{row}, read {number}");
             }
-            assert!(rt; holds(&rt, "old", b"old")?);
         }
     }
     remove_files(&rt)
@@ -135,7 +166,7 @@ fn is_cut(
     } else {
         file.get(..sent).unwrap_or(file)
     };
-    Ok(is_answered(rt, host, row.as_str())? && holds(rt, "old", left)?)
+    is_answered(rt, host, row.as_str(), left)
 }
 
 #[test]
@@ -155,11 +186,8 @@ fn a_write_that_fails_once_is_51(rt: HostRuntime) -> Result<(), Fail> {
                     },
                     ..StrictHost::over(&rt)
                 };
-                let sent = 10 * (number - 1);
-                assert!(rt;
-                    is_cut(&rt, &broken, words, file, sent)?,
-                    "{words}, write {number}"
-                );
+                let is_51 = is_cut(&rt, &broken, words, file, 10 * (number - 1))?;
+                assert!(rt; is_51, "{words}, write {number}");
             }
         }
     }
@@ -187,10 +215,8 @@ fn a_file_that_is_not_stored_is_51(rt: HostRuntime) -> Result<(), Fail> {
         }
         for kind in [ErrorKind::InvalidInput, ErrorKind::Unsupported] {
             let row = format!(in rt.alloc(); "{words}|0 ")?;
-            assert!(rt;
-                is_answered(&rt, &unsynced(&rt, kind), row.as_str())?,
-                "{words}"
-            );
+            let kept = is_answered(&rt, &unsynced(&rt, kind), row.as_str(), file)?;
+            assert!(rt; kept, "{words}");
         }
     }
     remove_files(&rt)
@@ -210,16 +236,14 @@ fn filtered(rt: &HostRuntime, read: Transfers, written: Transfers, to_end: bool)
 fn streams_that_fail_once(rt: HostRuntime) -> Result<(), Fail> {
     for kind in KINDS {
         for to_end in [false, true] {
-            let failing = Transfers::failing(1, kind);
-            let (status, output) = filtered(&rt, failing, Transfers::GOOD, to_end);
-            assert_eq!(rt; status, 4);
-            assert_eq!(rt; output.as_slice(), b"-: refused 50 ReadFailed\n".as_slice());
-            let (status, output) = filtered(&rt, Transfers::GOOD, failing, to_end);
-            assert_eq!(rt; status, 4);
-            assert_eq!(rt;
-                output.as_slice(),
-                b"-: refused 51 WriteFailed after 0 octets\n".as_slice()
-            );
+            let (failing, good) = (Transfers::failing(1, kind), Transfers::GOOD);
+            for (read, written, printed) in [
+                (failing, good, "-: refused 50 ReadFailed\n"),
+                (good, failing, "-: refused 51 WriteFailed after 0 octets\n"),
+            ] {
+                let (status, output) = filtered(&rt, read, written, to_end);
+                assert_eq!(rt; (status, output.as_slice()), (4, printed.as_bytes()));
+            }
         }
     }
     Ok(())

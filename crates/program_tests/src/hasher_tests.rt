@@ -2,8 +2,8 @@
 use crate::worked_files::{TABLE, TABLE_TEXT, UNSORTED};
 use plist_canon::{canonical_with_hasher, check_with_hasher, write_canonical_with_hasher};
 use plist_convert::answers::{check_answer, check_answer_of, same_answer};
-use plist_convert::{Disk, FileDisk, Form, HostDisk, MemoryFiles, read_any, run_on};
-use plist_devices::{ListSink, ListSource};
+use plist_convert::{Disk, FileDisk, Form, HostDisk, ListSource, MemoryFiles, read_any, run_on};
+use plist_devices::ListSink;
 use plist_forms::{
     canonicalise_with_hasher, convert_octets, convert_with_hasher, same_files_with_hasher,
 };
@@ -32,85 +32,55 @@ impl BuildHasher for Counting<'_> {
     }
 }
 
-// A call that takes a hash builder.
-#[derive(Clone, Copy, Debug)]
-enum Call {
-    Canonical,
-    WriteCanonical,
-    Check,
-    Canonicalise,
-    SameFiles,
-    Convert,
-    ConvertOctets,
-    CheckAnswer,
-    CheckAnswerOf,
-    SameAnswer,
-    Filter,
-    RunCheck,
-    RunSame,
-    StoreInMemory,
-    StoreAtHost,
+// Makes the call, and returns whether it builds a hasher by this builder.
+macro_rules! builds {
+    ($by:expr, $call:expr) => {{
+        $by.built.set(0);
+        drop($call?);
+        $by.built.get() > 0
+    }};
 }
 
-const CALLS: [Call; 15] = [
-    Call::Canonical,
-    Call::WriteCanonical,
-    Call::Check,
-    Call::Canonicalise,
-    Call::SameFiles,
-    Call::Convert,
-    Call::ConvertOctets,
-    Call::CheckAnswer,
-    Call::CheckAnswerOf,
-    Call::SameAnswer,
-    Call::Filter,
-    Call::RunCheck,
-    Call::RunSame,
-    Call::StoreInMemory,
-    Call::StoreAtHost,
-];
-
-// Makes the call, on a dictionary of two strings.
-fn make<H: BuildHasher + Copy>(rt: &HostRuntime, call: Call, hasher: H) -> Result<(), Fail> {
-    let alloc = rt.alloc();
-    match call {
-        Call::Canonical => drop(canonical_with_hasher(alloc, hasher, &read_any(alloc, TABLE)?)?),
-        Call::Check => drop(check_with_hasher(alloc, hasher, TABLE)?),
-        Call::Canonicalise => drop(canonicalise_with_hasher(alloc, hasher, TABLE)?),
-        Call::SameFiles => drop(same_files_with_hasher(alloc, hasher, TABLE, UNSORTED)?),
-        Call::CheckAnswer => drop(check_answer(alloc, hasher, "a", TABLE)?),
-        Call::CheckAnswerOf => drop(check_answer_of(alloc, hasher, true, "a", TABLE)?),
-        Call::SameAnswer => drop(same_answer(alloc, hasher, "a", "b", TABLE, UNSORTED)?),
-        Call::Filter => drop(run_row(alloc, hasher, &["plistconv"])?),
-        Call::RunCheck => drop(run_row(alloc, hasher, &["plistconv", "check", "a"])?),
-        Call::RunSame => drop(run_row(alloc, hasher, &["plistconv", "same", "a", "b"])?),
-        Call::StoreInMemory => {
-            store(alloc, &mut FileDisk::over(MemoryFiles::new(alloc), hasher))?;
-        }
-        Call::StoreAtHost => {
-            store(alloc, &mut HostDisk::new(rt, hasher))?;
-            fs::remove_file(rt, "hashed")?;
-        }
-        _ => send(alloc, call, hasher)?,
-    }
-    Ok(())
-}
-
-// Makes a call that sends.
-fn send<H: BuildHasher + Copy>(alloc: Global, call: Call, hasher: H) -> Result<(), Fail> {
-    let mut to = ListSink::new(alloc, 100, 7)?;
+// Makes the calls that convert, on a dictionary of two strings.
+fn convert_by(alloc: Global, by: Counting) -> Result<[bool; 5], Fail> {
+    let value = read_any(alloc, TABLE)?;
+    let octets = Vec::from_slice(alloc, TABLE)?;
     let mut from = ListSource::new(TABLE_TEXT, 3, None);
-    match call {
-        Call::WriteCanonical => {
-            write_canonical_with_hasher(alloc, hasher, &read_any(alloc, TABLE)?, &mut to)?
-        }
-        Call::Convert => convert_with_hasher(alloc, hasher, &mut from, &mut to, Form::Binary1)?,
-        _ => {
-            let octets = Vec::from_slice(alloc, TABLE)?;
-            convert_octets(alloc, hasher, octets, &mut to, Form::Binary1)?
-        }
-    };
-    Ok(())
+    let mut to = ListSink::new(alloc, 200, 7)?;
+    let form = Form::Binary1;
+    Ok([
+        builds!(by, canonical_with_hasher(alloc, by, &value)),
+        builds!(by, canonicalise_with_hasher(alloc, by, TABLE)),
+        builds!(by, write_canonical_with_hasher(alloc, by, &value, &mut to)),
+        builds!(by, convert_with_hasher(alloc, by, &mut from, &mut to, form)),
+        builds!(by, convert_octets(alloc, by, octets, &mut to, form)),
+    ])
+}
+
+// Makes the calls that answer.
+fn answer_by(alloc: Global, by: Counting) -> Result<[bool; 5], Fail> {
+    Ok([
+        builds!(by, check_with_hasher(alloc, by, TABLE)),
+        builds!(by, same_files_with_hasher(alloc, by, TABLE, UNSORTED)),
+        builds!(by, check_answer(alloc, by, "a", TABLE)),
+        builds!(by, check_answer_of(alloc, by, true, "a", TABLE)),
+        builds!(by, same_answer(alloc, by, "a", "b", TABLE, UNSORTED)),
+    ])
+}
+
+// Runs the program, and stores files in memory and at the host.
+fn run_by(rt: &HostRuntime, by: Counting) -> Result<[bool; 5], Fail> {
+    let alloc = rt.alloc();
+    let mut disk = FileDisk::over(MemoryFiles::new(alloc), by);
+    let answers = [
+        builds!(by, run_row(alloc, by, &["plistconv"])),
+        builds!(by, run_row(alloc, by, &["plistconv", "check", "a"])),
+        builds!(by, run_row(alloc, by, &["plistconv", "same", "a", "b"])),
+        builds!(by, store(alloc, &mut disk)),
+        builds!(by, store(alloc, &mut HostDisk::new(rt, by))),
+    ];
+    fs::remove_file(rt, "hashed")?;
+    Ok(answers)
 }
 
 fn store<D: Disk>(alloc: Global, disk: &mut D) -> Result<u64, Fail> {
@@ -136,14 +106,13 @@ fn run_row<H: BuildHasher + Copy>(
 
 #[test]
 fn each_call_hashes_by_its_builder(rt: HostRuntime) -> Result<(), Fail> {
-    for call in CALLS {
-        let built = Cell::new(0);
-        let counting = Counting {
-            hasher: FixedHasher::new().build_hasher(),
-            built: &built,
-        };
-        make(&rt, call, counting)?;
-        assert!(rt; built.get() > 0, "{call:?}");
-    }
+    let built = Cell::new(0);
+    let by = Counting {
+        hasher: FixedHasher::new().build_hasher(),
+        built: &built,
+    };
+    assert_eq!(rt; convert_by(rt.alloc(), by)?, [true; 5]);
+    assert_eq!(rt; answer_by(rt.alloc(), by)?, [true; 5]);
+    assert_eq!(rt; run_by(&rt, by)?, [true; 5]);
     Ok(())
 }

@@ -5,28 +5,28 @@ use crate::worked_files::{
     REAL4, REAL8, TABLE, TABLE_TEXT, TRUE, TWICE, UNSORTED, VALUES_FIRST, WRITTEN_TEXT,
 };
 use plist_convert::run;
-use std::alloc::{AllocError, Global};
+use std::alloc::AllocError;
 use std::fs;
-use std::io::Read;
 use std::test::Fail;
 
-// Runs the program with this input and returns its exit status.
-fn status_with<R: Read>(
-    rt: &HostRuntime,
-    words: &[&str],
-    input: &mut R,
-    output: &mut Vec<u8>,
-) -> u8 {
-    run(rt, rt.alloc(), words, input, output)
-}
-
+// Runs the program without input and returns its exit status.
 pub(crate) fn status_of(rt: &HostRuntime, words: &[&str], output: &mut Vec<u8>) -> u8 {
     let mut input: &[u8] = b"";
-    status_with(rt, words, &mut input, output)
+    run(rt, rt.alloc(), words, &mut input, output)
 }
 
+// The number 5 in eight bytes.
+const LONG: &[u8] =
+    b"bplist00\x13\0\0\0\0\0\0\0\x05\x08\0\0\0\0\0\0\x01\x01\0\0\0\0\0\0\0\x01\0\0\0\0\0\0\0\0\
+      \0\0\0\0\0\0\0\x11";
+
+// Its canonical file.
+const SHORT: &[u8] =
+    b"bplist00\x10\x05\x08\0\0\0\0\0\0\x01\x01\0\0\0\0\0\0\0\x01\0\0\0\0\0\0\0\0\0\0\0\0\0\0\0\
+      \x0a";
+
 // The files of the rows.
-const FILES: [(&str, &[u8]); 11] = [
+const FILES: [(&str, &[u8]); 12] = [
     ("row2.txt", TABLE_TEXT),
     ("row2.bin", TABLE),
     ("unsorted.bin", UNSORTED),
@@ -36,12 +36,13 @@ const FILES: [(&str, &[u8]); 11] = [
     ("true.bin", TRUE),
     ("values.bin", VALUES_FIRST),
     ("short.bin", b"bplist00"),
+    ("long.bin", LONG),
     ("old", b"old"),
     ("empty", b""),
 ];
 
 // Runs, one after another. If the input is refused, OUT is unchanged, even if it is the input.
-const ROWS: [&str; 39] = [
+const ROWS: [&str; 43] = [
     "convert binary1 row2.txt converted|0 ",
     "same row2.txt row2.bin|0 equal\n",
     "same real4.bin real8.bin|1 different\n",
@@ -81,19 +82,19 @@ const ROWS: [&str; 39] = [
     "check empty|2 empty: refused 1 TooShort\n",
     "convert binary1 empty table|0 ",
     "same empty table|0 equal\n",
+    "convert binary1 long.bin made.bin|0 ",
+    "check long.bin|1 broken C4 at object 0\n",
+    "check made.bin|0 canonical\n",
+    "same long.bin made.bin|0 equal\n",
 ];
 
-// Returns the first row with another result.
-fn wrong(rt: &HostRuntime, rows: &[&'static str]) -> Result<Option<&'static str>, AllocError> {
-    for row in rows {
-        let words = words_of(rt.alloc(), row)?;
-        let mut output = Vec::new(rt.alloc());
-        let status = status_of(rt, words.as_slice(), &mut output);
-        if printed_of(row, status) != Some(output.as_slice()) {
-            return Ok(Some(*row));
-        }
-    }
-    Ok(None)
+// Runs a row, and returns what it expects to be printed, if the status is as expected, and what is
+// printed.
+fn answer<'a>(rt: &HostRuntime, row: &'a str) -> Result<(Option<&'a [u8]>, Vec<u8>), AllocError> {
+    let words = words_of(rt.alloc(), row)?;
+    let mut output = Vec::new(rt.alloc());
+    let status = status_of(rt, words.as_slice(), &mut output);
+    Ok((printed_of(row, status), output))
 }
 
 pub(crate) fn put_files(rt: &HostRuntime) -> Result<(), Fail> {
@@ -119,17 +120,27 @@ pub(crate) fn holds(rt: &HostRuntime, path: &str, octets: &[u8]) -> Result<bool,
 #[test]
 fn answers_the_worked_rows(rt: HostRuntime) -> Result<(), Fail> {
     put_files(&rt)?;
-    assert_eq!(rt; wrong(&rt, &ROWS)?, None);
-    assert!(rt; holds(&rt, "converted", TABLE)?);
-    assert!(rt; holds(&rt, "text", WRITTEN_TEXT)?);
-    assert!(rt; holds(&rt, "old", b"old")?);
-    assert!(rt; holds(&rt, "twice.txt", TWICE)?);
-    assert!(rt; holds(&rt, "true.bin", TRUE)?);
+    for row in ROWS {
+        let (printed, output) = answer(&rt, row)?;
+        assert!(rt; printed == Some(output.as_slice()), "{row}");
+    }
+    let files: [(&str, &[u8]); 7] = [
+        ("converted", TABLE),
+        ("text", WRITTEN_TEXT),
+        ("old", b"old"),
+        ("twice.txt", TWICE),
+        ("true.bin", TRUE),
+        ("made.bin", SHORT),
+        ("long.bin", LONG),
+    ];
+    for (path, octets) in files {
+        assert!(rt; holds(&rt, path, octets)?, "{path}");
+    }
     assert!(rt; !fs::exists(&rt, "new")?);
     remove_files(&rt)?;
-    fs::remove_file(&rt, "converted")?;
-    fs::remove_file(&rt, "table")?;
-    fs::remove_file(&rt, "text")?;
+    for path in ["converted", "table", "text", "made.bin"] {
+        fs::remove_file(&rt, path)?;
+    }
     Ok(())
 }
 
@@ -157,46 +168,31 @@ const OTHER_WORDS: [&str; 20] = [
     "--|3 error: ",
 ];
 
-// Returns the first row with another result.
-fn wrong_front(rt: &HostRuntime) -> Result<Option<&'static str>, AllocError> {
-    for row in &OTHER_WORDS {
-        let words = words_of(rt.alloc(), row)?;
-        let mut output = Vec::new(rt.alloc());
-        let status = status_of(rt, words.as_slice(), &mut output);
-        match printed_of(row, status) {
-            Some(front) if output.starts_with(front) => {}
-            _ => return Ok(Some(*row)),
-        }
-    }
-    Ok(None)
-}
-
 #[test]
 fn answers_other_words(rt: HostRuntime) -> Result<(), Fail> {
-    assert_eq!(rt; wrong_front(&rt)?, None);
-    Ok(())
-}
-
-// Returns whether a run with these arguments makes the canonical file of each input.
-fn filters(rt: &HostRuntime, words: &[&str]) -> bool {
-    for mut input in [UNSORTED, TABLE_TEXT] {
-        let mut output = Vec::new(rt.alloc());
-        let status = status_with(rt, words, &mut input, &mut output);
-        if status != 0 || output.as_slice() != TABLE {
-            return false;
-        }
+    for row in OTHER_WORDS {
+        let (front, output) = answer(&rt, row)?;
+        assert!(rt;
+            matches!(front, Some(front) if output.starts_with(front)),
+            "{row}"
+        );
     }
-    true
+    Ok(())
 }
 
 #[test]
 fn filters_standard_input(rt: HostRuntime) -> Result<(), Fail> {
-    assert!(rt; filters(&rt, &["plistconv"]));
-    assert!(rt; filters(&rt, &[]));
+    for words in [["plistconv"].as_slice(), &[]] {
+        for mut input in [UNSORTED, TABLE_TEXT] {
+            let mut output = Vec::new(rt.alloc());
+            let status = run(&rt, rt.alloc(), words, &mut input, &mut output);
+            assert_eq!(rt; (status, output.as_slice()), (0, TABLE));
+        }
+    }
     let mut output = Vec::new(rt.alloc());
-    let status = status_with(&rt, &[], &mut BrokenReader::new(), &mut output);
-    assert_eq!(rt; status, 4);
-    assert_eq!(rt; output.as_slice(), b"-: refused 50 ReadFailed\n".as_slice());
+    let status = run(&rt, rt.alloc(), &[], &mut BrokenReader::new(), &mut output);
+    let printed = b"-: refused 50 ReadFailed\n".as_slice();
+    assert_eq!(rt; (status, output.as_slice()), (4, printed));
     // The status tells that the file is incomplete, even if the line cannot be printed.
     let mut input = TABLE;
     let mut narrow = Narrow { room: 10 };

@@ -1,13 +1,9 @@
 //! The tests of the program that no row of `rows` can express: over the files of the host and over
-//! a disk in memory. Also calls of what it exports.
+//! a disk in memory.
 #![tactic(auto)]
 
 #[cfg(test)]
-mod convert_tests;
-#[cfg(test)]
 mod device_tests;
-#[cfg(test)]
-mod ending_tests;
 #[cfg(test)]
 mod explain_tests;
 #[cfg(test)]
@@ -28,8 +24,6 @@ mod readme;
 mod several_tests;
 #[cfg(test)]
 mod strict;
-#[cfg(test)]
-mod surface;
 #[cfg(test)]
 mod words;
 

@@ -1,4 +1,5 @@
 //! The whole program over files, an input and an output in memory.
+use crate::device_tests::file_of_data;
 use crate::words::{printed_of, words_of};
 use crate::worked_files::{TABLE, TABLE_TEXT, TWICE, UNSORTED};
 use plist_convert::{Disk, Fault, FileDisk, Form, MemoryFiles, run_on};
@@ -121,27 +122,13 @@ fn a_full_disk_takes_a_front(rt: HostRuntime) -> Result<(), Fail> {
     Ok(())
 }
 
-// The bytes after the data, without the last: the offset table and the trailer.
-const LONG_END: &[u8] = b"\0\x08\0\0\0\0\0\0\x02\x01\0\0\0\0\0\0\0\x01\
-      \0\0\0\0\0\0\0\0\0\0\0\0\0\0\x13";
-
-// Returns the file of 5,000 bytes of data after `front`, with the last byte of the offset of its
-// offset table.
-fn long_data(alloc: Global, front: &[u8], table: u8) -> Result<Vec<u8>, AllocError> {
-    let mut octets = Vec::from_slice(alloc, front)?;
-    octets.extend_from_slice(&[7; 5000])?;
-    octets.extend_from_slice(LONG_END)?;
-    octets.push(table)?;
-    Ok(octets)
-}
-
 #[test]
 fn filters_in_memory(rt: HostRuntime) -> Result<(), Fail> {
     let alloc = rt.alloc();
     let mut disk = disk_with_limit(alloc, 100)?;
     // Data of more than 4,096 bytes is written without a copy.
-    let long = long_data(alloc, b"bplist00\x4f\x12\0\0\x13\x88", 0x96)?;
-    let own = long_data(alloc, b"bplist00\x4f\x11\x13\x88", 0x94)?;
+    let long = file_of_data(alloc, b"\x4f\x12\0\0\x13\x88")?;
+    let own = file_of_data(alloc, b"\x4f\x11\x13\x88")?;
     let rows: [(&[u8], Option<u64>, &[u8], u8); 4] = [
         (UNSORTED, None, TABLE, 0),
         (UNSORTED, Some(2), b"-: refused 50 ReadFailed\n", 4),

@@ -1,5 +1,5 @@
 //! The example of CONTRIBUTING. `scripts/readme` compares it with these lines.
-use plist_convert::same_files;
+use plist_convert::{PairFault, line, same_files};
 use std::test::Fail;
 
 // The example of CONTRIBUTING:
@@ -18,7 +18,11 @@ fn spellings_have_one_key(rt: HostRuntime) -> Result<(), Fail> {
     let new: &[u8] = b"langs = (en, \"fr\",); name = Ada;";
     assert_eq!(rt; cache_key(rt.alloc(), old)?, cache_key(rt.alloc(), new)?);
     assert!(rt; same_files(rt.alloc(), old, new)?);
-    let refused = cache_key(rt.alloc(), b"{ a = b; a = c; }").err();
-    assert_eq!(rt; refused.map(|fault| fault.code()), Some(14));
+    let twice = b"{ a = b; a = c; }";
+    let fault = cache_key(rt.alloc(), twice).err().ok_or("accepted")?;
+    let printed = line(rt.alloc(), "p", &fault)?;
+    assert_eq!(rt; printed.as_str(), "p: refused 14 DuplicateKey at octet 9");
+    let answer = same_files(rt.alloc(), old, twice);
+    assert_eq!(rt; answer, Err(PairFault::Second(fault)));
     Ok(())
 }

@@ -114,18 +114,14 @@ fn a_path_is_required(rt: HostRuntime) -> Result<(), Fail> {
 // A line that is cut off ends the run: the file that is missing is not looked for.
 #[test]
 fn a_line_that_is_cut_off_ends_the_run(rt: HostRuntime) -> Result<(), Fail> {
-    let alloc = rt.alloc();
-    let mut disk = disk_of_files(alloc)?;
-    let (status, output) = ran(alloc, &mut disk, "lint a.bin a.txt missing", 15)?;
-    assert_eq!(rt; status, 4);
-    assert_eq!(rt; output.taken(), b"a.bin: OK\na.txt".as_slice());
-    assert_eq!(rt; disk.failures(), 0);
-    let (status, output) = ran(alloc, &mut disk, "check a.txt a.bin missing", 30)?;
-    assert_eq!(rt; status, 4);
-    assert_eq!(rt;
-        output.taken(),
-        b"a.txt: refused 1 TooShort\na.bi".as_slice()
-    );
-    assert_eq!(rt; disk.failures(), 0);
+    for row in [
+        "lint a.bin a.txt missing|4 a.bin: OK\na.txt",
+        "check a.txt a.bin missing|4 a.txt: refused 1 TooShort\na.bi",
+    ] {
+        let printed = printed_of(row, 4).ok_or("no status")?;
+        let mut disk = disk_of_files(rt.alloc())?;
+        let (status, output) = ran(rt.alloc(), &mut disk, row, printed.len())?;
+        assert_eq!(rt; (status, output.taken(), disk.failures()), (4, printed, 0));
+    }
     Ok(())
 }
