@@ -13,10 +13,8 @@ use plist_value::{Value, fits, same};
 use std::test::Fail;
 use test_files::file;
 
-// A text whose keys ascend by their units, and the size of its canonical file.
+// A text whose keys ascend by their units. Its canonical file has 62 bytes.
 const SURROGATES: &[u8] = b"{\"\\Uff61\"=a;\"\\Ud800\\Udc00\"=b;}";
-
-const SURROGATES_SIZE: u64 = 62;
 
 // Texts with the number of their refusal, 0 if they are accepted.
 const TEXTS: [(&[u8], u8); 8] = [
@@ -61,11 +59,11 @@ fn files_are_made(rt: HostRuntime) -> Result<(), Fail> {
         return Err(Fail::from("it does not fit"));
     }
     let whole = canonical(alloc, &value)?;
-    assert_eq!(rt; whole.len() as u64, SURROGATES_SIZE);
+    assert_eq!(rt; whole.len(), 62);
     let mut sink = ListSink::new(alloc, 100, 7)?;
     let sent = match write_canonical(alloc, &value, &mut sink) {
         Ok(sent) => {
-            assert_eq!(rt; sent, SURROGATES_SIZE);
+            assert_eq!(rt; sent, 62);
             sent
         }
         Err(WriteFault::OutOfMemory { sent }) => sent,
@@ -143,28 +141,24 @@ fn faults_are_printed(rt: HostRuntime) -> Result<(), Fail> {
     let alloc = rt.alloc();
     let ascii = Fault::Binary(BinaryFault::NotAscii { object: 7 });
     let twice = Fault::Text(TextFault::DuplicateKey { octet: 3 });
+    let wanting = Fault::from(BinaryFault::OutOfMemory);
     for (fault, printed) in [
         (ascii, "p: refused 11 NotAscii at object 7"),
-        (
-            Fault::from(BinaryFault::OutOfMemory),
-            "p: refused 60 OutOfMemory after 0 octets",
-        ),
         (twice, "p: refused 14 DuplicateKey at octet 3"),
+        (wanting, "p: refused 60 OutOfMemory after 0 octets"),
     ] {
         assert_eq!(rt; line(alloc, "p", &fault)?.as_str(), printed);
     }
-    for (fault, printed) in [
-        (
-            PairFault::First(Fault::ReadFailed),
-            "the first: 50 ReadFailed",
-        ),
-        (
-            PairFault::Second(Fault::from(DeviceFault)),
-            "the second: 50 ReadFailed",
-        ),
-    ] {
-        assert_eq!(rt; fault.to_string(alloc)?.as_str(), printed);
-    }
+    let first = PairFault::First(Fault::ReadFailed);
+    assert_eq!(rt;
+        first.to_string(alloc)?.as_str(),
+        "the first: 50 ReadFailed"
+    );
+    let second = PairFault::Second(Fault::from(DeviceFault));
+    assert_eq!(rt;
+        second.to_string(alloc)?.as_str(),
+        "the second: 50 ReadFailed"
+    );
     assert_eq!(rt; DeviceFault.to_string(alloc)?.as_str(), "the device failed");
     Ok(())
 }

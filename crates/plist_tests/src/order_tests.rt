@@ -34,19 +34,12 @@ fn deep(alloc: Global, objects: &[&[u8]]) -> Result<Vec<u8>, AllocError> {
     draft.finish(4, 2)
 }
 
-// The numbers of an array of 4,095 arrays, of the array of 4,095 booleans that each of them is, and
-// of the boolean.
-const WIDE: u16 = 600;
-
-const FLAGS: u16 = 601;
-
-const FLAG: u16 = 602;
-
 // Like `deep`, but object 511 is node 16,777,216 too: the top array contains 16,776,704 nodes
-// before object 1.
+// before object 1. Object 600 is an array of 4,095 arrays, which all are object 601, an array of
+// 4,095 booleans, which all are object 602.
 fn full(alloc: Global, objects: &[&[u8]]) -> Result<Vec<u8>, AllocError> {
     let mut draft = Draft::new(alloc)?;
-    put_fan(&mut draft, alloc, 3585, &[(WIDE, 1), (FLAG, 3583), (1, 1)])?;
+    put_fan(&mut draft, alloc, 3585, &[(600, 1), (602, 3583), (1, 1)])?;
     draft.put_chain(2..512, 2)?;
     for object in objects {
         draft.put(object)?;
@@ -54,8 +47,8 @@ fn full(alloc: Global, objects: &[&[u8]]) -> Result<Vec<u8>, AllocError> {
     for _ in 511 + objects.len()..600 {
         draft.put(b"\x08")?;
     }
-    put_fan(&mut draft, alloc, 4095, &[(FLAGS, 4095)])?;
-    put_fan(&mut draft, alloc, 4095, &[(FLAG, 4095)])?;
+    put_fan(&mut draft, alloc, 4095, &[(601, 4095)])?;
+    put_fan(&mut draft, alloc, 4095, &[(602, 4095)])?;
     draft.put(b"\x09")?;
     draft.finish(4, 2)
 }

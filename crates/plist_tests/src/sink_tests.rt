@@ -52,10 +52,8 @@ fn loads_from_readers(rt: HostRuntime) -> Result<(), Fail> {
     assert_eq!(rt; source.take(&mut buffer), Err(DeviceFault));
     assert_eq!(rt; source.failures(), 1);
     let mut source = ReaderSource::new(BrokenReader::new());
-    assert_eq!(rt;
-        load(rt.alloc(), &mut source).err(),
-        Some(Fault::ReadFailed)
-    );
+    let fault = load(rt.alloc(), &mut source).err();
+    assert_eq!(rt; fault, Some(Fault::ReadFailed));
     Ok(())
 }
 
