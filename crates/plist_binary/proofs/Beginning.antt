@@ -1,5 +1,4 @@
--- What comes before an object, from what comes before its container and from the references before
--- it.
+-- What comes before a node, from what comes before its container and from the references before it.
 use Rattle.std.proofs.Common.{◌≡◌, ℕ, suc, ◌+◌, ◌-◌, ◌<◌, List, [], ◌∷◌, ◌++◌, ◌≤◌, length, take, drop, slice_index, refl, sym, ap, ◌∙◌, subst, arith}
 use Rattle.std.proofs.lemmas.List.{append_assoc, append-nil}
 use Rattle.std.proofs.lemmas.List.Elements.{Contains-append_left, Contains-append_right}
@@ -9,81 +8,80 @@ use Rattle.plist_value.specs.Limits.{nodes_of_items, depth_of_items, payload_of_
 use Rattle.plist_value.specs.declared.TheConstants.{MAX_DEPTH}
 use Rattle.plist_value.specs.Budget.{Spends}
 use Rattle.plist_value.specs.declared.budget.Budget.{Budget}
-use Rattle.plist_object.specs.Objects.{Content, holds_list, holds_table}
+use Rattle.plist_object.specs.Layout.{IsLaid}
+use Rattle.plist_object.specs.Objects.{holds_list, holds_table}
 use Rattle.plist_object.specs.Places.{Holds}
 use Rattle.plist_object.specs.References.{references_of}
-use Rattle.plist_object.specs.Spelled.{SpellItems}
-use Rattle.plist_binary.specs.Begins.{Comes, Begins, IsBegun, IsEntered, AreNext}
-use Rattle.plist_binary.specs.Paths.{Refers, Leads, HasKeys}
+use Rattle.plist_binary.specs.Begins.{Comes, Begins, IsBegun, AreNext}
+use Rattle.plist_binary.specs.Budgets.{limits}
+use Rattle.plist_binary.specs.declared.progress.Progress.{Progress}
+use Rattle.plist_binary.specs.declared.walker.Node.{Node}
+use Rattle.plist_binary.specs.Paths.{EndsPath, Refers, Leads}
+use Rattle.plist_binary.specs.Progress.{AreDue, IsDue, IsTaken, above, inside}
 use Rattle.plist_binary.specs.Readings.{ReadsItems}
 use Rattle.plist_binary.proofs.ItemSteps.{around, join, Spends-then, Spends-none, SpellItems-join, AreItems-join, nodes-join, payload-join, depth-join}
 
-pub Comes-refers : (f : List ℕ) (j i : ℕ) (vs : Items) → Comes f j i vs → Refers f j i
-Comes-refers f j i vs comes = record {
+-- the container contains each of the references
+pub Comes-refers : {f : List ℕ} {j : ℕ} {refs : List ℕ} {vs : Items} (i : ℕ) → Comes f j refs vs → Contains refs i → Refers f j i
+Comes-refers {refs = refs} i comes among = record {
   held = comes.held;
   holds = comes.holds;
-  among = subst (λ (refs : List ℕ). Contains refs i) (sym comes.all) (Contains-append_right comes.front (i ∷ comes.behind) i (0, (omega arith), refl));
+  among = subst (λ (all : List ℕ). Contains all i) (sym comes.all) (Contains-append_right comes.front (refs ++ comes.behind) i (Contains-append_left refs comes.behind i among));
 }
 
 -- the path to an object leads to it
 pub Begins-leads : (f before : List ℕ) (i nodes payload : ℕ) → Begins f before i nodes payload → Leads f before i
 Begins-leads f [] i nodes payload begins = begins.0
 Begins-leads f (j ∷ before) i nodes payload begins = (
-  Comes-refers f j i begins.values begins.comes,
+  Comes-refers i begins.comes (0, (omega arith), refl),
   Begins-leads f before j begins.nodes_above begins.payload_above begins.above,
 )
 
-pub IsBegun-leads : (f before : List ℕ) (i : ℕ) (left : Budget) → IsBegun f before i left → Leads f before i
-IsBegun-leads f before i left begun = Begins-leads f before i begun.nodes begun.payload begun.begins
+pub IsDue-leads : {f : List ℕ} {node : Node} {progress : Progress} → IsDue f node progress → Leads f (above node) node.object
+IsDue-leads {f} {node} due = Begins-leads f (above node) node.object due.begun.nodes due.begun.payload due.begun.begins
 
--- taking the node of the container itself
-pub IsEntered-begun : (f before : List ℕ) (j : ℕ) (left after : Budget) → IsBegun f before j left → ¬ Contains before j → length before < MAX_DEPTH → Spends left 1 0 after → IsEntered f before j after
-IsEntered-begun f before j left after begun new shallow node = record {
-  nodes = begun.nodes;
-  payload = begun.payload;
-  begins = begun.begins;
-  new = new;
-  shallow = shallow;
-  spent = Spends-then begun.spent node (omega arith) (omega arith);
-}
+pub AreDue-ends : {f : List ℕ} {container : Node} {refs : List ℕ} {progress : Progress} → IsLaid f → AreDue f container refs progress → EndsPath f container.object
+AreDue-ends {f} {container} laid due =
+    let begins = due.next.begins in
+    record {
+      laid = laid;
+      before = above container;
+      leads = Begins-leads f (above container) container.object begins.nodes_above begins.payload_above begins.above;
+    }
 
-pub IsEntered-leads : (f before : List ℕ) (j : ℕ) (left : Budget) → IsEntered f before j left → Leads f before j
-IsEntered-leads f before j left entered = Begins-leads f before j entered.nodes entered.payload entered.begins
+-- the references of a container that was taken, after those to these values
+AreNext-part : {f : List ℕ} {node : Node} {before left : Progress} (refs : List ℕ) (after : Budget) (vs : Items) → IsDue f node before → IsTaken f node before left → Comes f node.object refs vs → depth_of_items vs + 1 ≤ node.levels → Spends left.left (nodes_of_items vs) (payload_of_items vs) after → AreNext f (above node) node.object refs after
+AreNext-part {left = left} refs after vs due taken comes deep spent =
+    let entered : Spends limits (due.begun.nodes + 1) due.begun.payload left.left = Spends-then due.begun.spent taken.spent (omega arith) (omega arith) in
+    record {
+      nodes = due.begun.nodes + 1 + nodes_of_items vs;
+      payload = due.begun.payload + payload_of_items vs;
+      begins = record {
+        nodes_above = due.begun.nodes;
+        payload_above = due.begun.payload;
+        above = due.begun.begins;
+        new = taken.new;
+        values = vs;
+        comes = comes;
+        deep = omega (arith, deep, due.depth);
+        nodes_sum = refl;
+        payload_sum = refl;
+      };
+      spent = Spends-then entered spent refl refl;
+    }
 
--- the references of a container that was entered, after those that were followed
-AreNext-part : (f before : List ℕ) (j : ℕ) (held : Content) (front refs behind : List ℕ) (left after : Budget) (vs : Items) → IsEntered f before j left → Holds f j held → references_of held ≡ front ++ (refs ++ behind) → SpellItems f front vs → AreItems vs → length before + 1 + depth_of_items vs ≤ MAX_DEPTH → Spends left (nodes_of_items vs) (payload_of_items vs) after → AreNext f before j refs after
-AreNext-part f before j held front refs behind left after vs entered holds all spell valid deep spent = record {
-  nodes = entered.nodes;
-  payload = entered.payload;
-  begins = entered.begins;
-  new = entered.new;
-  held = held;
-  holds = holds;
-  front = front;
-  behind = behind;
-  all = all;
-  values = vs;
-  spell = spell;
-  valid = valid;
-  deep = deep;
-  spent = Spends-then entered.spent spent (omega arith) refl;
-}
+pub AreNext-items : {f : List ℕ} {node : Node} {before left : Progress} (refs : List ℕ) → IsDue f node before → IsTaken f node before left → Holds f node.object (holds_list refs) → AreNext f (above node) node.object refs left.left
+AreNext-items {left = left} refs due taken holds =
+    AreNext-part refs left.left no_items due taken record { held = holds_list refs; holds = holds; front = []; behind = []; all = sym (append-nil refs); spell = refl; valid = tt } (omega (arith, taken.deep)) (Spends-none left.left)
 
-pub AreNext-items : (f before : List ℕ) (j : ℕ) (refs : List ℕ) (left : Budget) → IsEntered f before j left → Holds f j (holds_list refs) → AreNext f before j refs left
-AreNext-items f before j refs left entered holds =
-    AreNext-part f before j (holds_list refs) [] refs [] left left no_items entered holds (sym (append-nil refs)) refl tt (omega (arith, entered.shallow)) (Spends-none left)
-
-pub AreNext-keys : (f before : List ℕ) (j : ℕ) (keys : List ℕ) (left : Budget) → IsEntered f before j left → HasKeys f j keys → AreNext f before j keys left
-AreNext-keys f before j keys left entered table =
-    AreNext-part f before j (holds_table keys table.values) [] keys table.values left left no_items entered table.holds refl refl tt (omega (arith, entered.shallow)) (Spends-none left)
+pub AreNext-keys : {f : List ℕ} {node : Node} {before left : Progress} (keys values : List ℕ) → IsDue f node before → IsTaken f node before left → Holds f node.object (holds_table keys values) → AreNext f (above node) node.object keys left.left
+AreNext-keys {left = left} keys values due taken holds =
+    AreNext-part keys left.left no_items due taken record { held = holds_table keys values; holds = holds; front = []; behind = values; all = refl; spell = refl; valid = tt } (omega (arith, taken.deep)) (Spends-none left.left)
 
 -- the values of a dictionary, after its keys
-pub AreNext-values : (f before : List ℕ) (j : ℕ) (keys values : List ℕ) (levels : ℕ) (left after : Budget) (vs : Items) → IsEntered f before j left → Holds f j (holds_table keys values) → length before + 1 + levels ≡ MAX_DEPTH → ReadsItems f keys levels left vs after → AreNext f before j values after
-AreNext-values f before j keys values levels left after vs entered holds levels_are read =
-    AreNext-part f before j (holds_table keys values) keys values [] left after vs entered holds (ap (λ (l : List ℕ). keys ++ l) (sym (append-nil values))) read.spell read.valid (omega (arith, read.deep, levels_are)) read.spent
-
-pub AreNext-leads : (f before : List ℕ) (j : ℕ) (refs : List ℕ) (left : Budget) → AreNext f before j refs left → Leads f before j
-AreNext-leads f before j refs left next = Begins-leads f before j next.nodes next.payload next.begins
+pub AreNext-values : {f : List ℕ} {node : Node} {before left : Progress} (keys values : List ℕ) (after : Budget) (vs : Items) → IsDue f node before → IsTaken f node before left → Holds f node.object (holds_table keys values) → ReadsItems f keys (node.levels - 1) left.left vs after → AreNext f (above node) node.object values after
+AreNext-values keys values after vs due taken holds read =
+    AreNext-part values after vs due taken record { held = holds_table keys values; holds = holds; front = keys; behind = []; all = ap (λ (l : List ℕ). keys ++ l) (sym (append-nil values)); spell = read.spell; valid = read.valid } (omega (arith, read.deep, taken.deep)) read.spent
 
 -- the references before one of them, and those after it
 around_next : (front refs behind : List ℕ) (k i : ℕ) → k < length refs → i ≡ slice_index refs k → front ++ (refs ++ behind) ≡ (front ++ take k refs) ++ i ∷ (drop (suc k) refs ++ behind)
@@ -93,41 +91,36 @@ around_next front refs behind k i within is =
     ∙ sym (append_assoc front (take k refs) (i ∷ (drop (suc k) refs ++ behind)))
 
 -- the reference after those that were followed
-pub IsBegun-next : (f before : List ℕ) (j : ℕ) (refs : List ℕ) (k i levels : ℕ) (left after : Budget) (vs : Items) → AreNext f before j refs left → length before + 1 + levels ≡ MAX_DEPTH → k < length refs → i ≡ slice_index refs k → ReadsItems f (take k refs) levels left vs after → IsBegun f (j ∷ before) i after
-IsBegun-next f before j refs k i levels left after vs next levels_are within is read =
-    let values = join next.values vs in
-    let nodes_sum = nodes-join next.values vs in
-    let payload_sum = payload-join next.values vs in
-    let deep : length before + 1 + depth_of_items values ≤ MAX_DEPTH = omega (arith, depth-join next.values vs (MAX_DEPTH - (length before + 1)) (omega (arith, next.deep)) (omega (arith, read.deep, levels_are)), next.deep) in
+pub IsBegun-next : {f : List ℕ} {container : Node} {refs : List ℕ} {before : Progress} (k i : ℕ) (after : Budget) (vs : Items) → AreDue f container refs before → k < length refs → i ≡ slice_index refs k → ReadsItems f (take k refs) (container.levels - 1) before.left vs after → IsBegun f (inside container) i after
+IsBegun-next {f} {container} {refs} k i after vs due within is read =
+    let begins = due.next.begins in
+    let comes = begins.comes in
+    let values = join begins.values vs in
+    let before = above container in
+    let nodes_sum = nodes-join begins.values vs in
+    let payload_sum = payload-join begins.values vs in
+    let deep : length before + 1 + depth_of_items values ≤ MAX_DEPTH = omega (arith, depth-join begins.values vs (MAX_DEPTH - (length before + 1)) (omega (arith, begins.deep)) (omega (arith, read.deep, due.depth)), begins.deep) in
     record {
-      nodes = next.nodes + 1 + nodes_of_items values;
-      payload = next.payload + payload_of_items values;
+      nodes = begins.nodes_above + 1 + nodes_of_items values;
+      payload = begins.payload_above + payload_of_items values;
       begins = record {
-        nodes_above = next.nodes;
-        payload_above = next.payload;
-        above = next.begins;
-        new = next.new;
+        nodes_above = begins.nodes_above;
+        payload_above = begins.payload_above;
+        above = begins.above;
+        new = begins.new;
         values = values;
         deep = deep;
         comes = record {
-          held = next.held;
-          holds = next.holds;
-          front = next.front ++ take k refs;
-          behind = drop (suc k) refs ++ next.behind;
-          all = next.all ∙ around_next next.front refs next.behind k i within is;
-          spell = SpellItems-join f next.front (take k refs) next.values vs next.spell read.spell;
-          valid = AreItems-join next.values vs next.valid read.valid;
+          held = comes.held;
+          holds = comes.holds;
+          front = comes.front ++ take k refs;
+          behind = drop (suc k) refs ++ comes.behind;
+          all = comes.all ∙ around_next comes.front refs comes.behind k i within is;
+          spell = SpellItems-join f comes.front (take k refs) begins.values vs comes.spell read.spell;
+          valid = AreItems-join begins.values vs comes.valid read.valid;
         };
         nodes_sum = refl;
         payload_sum = refl;
       };
-      spent = Spends-then next.spent read.spent (omega arith) (omega arith);
+      spent = Spends-then due.next.spent read.spent (omega (arith, begins.nodes_sum)) (omega (arith, begins.payload_sum));
     }
-
--- the container contains each of them
-pub Refers-next : (f before : List ℕ) (j i : ℕ) (refs : List ℕ) (left : Budget) → AreNext f before j refs left → Contains refs i → Refers f j i
-Refers-next f before j i refs left next among = record {
-  held = next.held;
-  holds = next.holds;
-  among = subst (λ (all : List ℕ). Contains all i) (sym next.all) (Contains-append_right next.front (refs ++ next.behind) i (Contains-append_left refs next.behind i among));
-}

@@ -15,7 +15,7 @@ use Rattle.plist_binary.specs.Building.{AllSpellWithin, AllSpellTexts, SpellsTex
 use Rattle.plist_binary.specs.Readings.{texts}
 use Rattle.plist_binary.proofs.ItemSteps.{Spells-held, texts-push, next, SpellItems-push}
 use Rattle.plist_binary.proofs.Ascents.{same_key}
-use Rattle.plist_binary.proofs.Entering.{length-values}
+use Rattle.plist_binary.proofs.Sorting.{same_texts}
 use Rattle.plist_value.proofs.Items.{push, AreItems-push}
 use Rattle.plist_binary.proofs.TableSteps.{Unsorted, unsort}
 
@@ -55,26 +55,26 @@ list_within f refs i levels (table ps) holds spells valid deep =
 pub AllSpellWithin-list : (f refs : List ℕ) (i levels : ℕ) → Holds f i (holds_list refs) → SpellsWithin f i levels → AllSpellWithin f refs (levels - 1)
 AllSpellWithin-list f refs i levels holds within = list_within f refs i levels within.value holds within.spells within.valid within.deep
 
-table_within : (f keys values : List ℕ) (i levels : ℕ) (v : Plist) → Holds f i (holds_table keys values) → Spells f i v → IsPlist v → depth v ≤ levels → SpellsPairsWithin f keys values (levels - 1)
-table_within f keys values i levels (scalar s) holds spells valid deep =
+table_within : (f keys values : List ℕ) (i levels : ℕ) (v : Plist) → length keys ≡ length values → Holds f i (holds_table keys values) → Spells f i v → IsPlist v → depth v ≤ levels → SpellsPairsWithin f keys values (levels - 1)
+table_within f keys values i levels (scalar s) long holds spells valid deep =
     absurd (let held = same_held f i (holds_table keys values) (holds_scalar s) holds spells in cc)
-table_within f keys values i levels (list vs) holds spells valid deep =
+table_within f keys values i levels (list vs) long holds spells valid deep =
     absurd (let held = same_held f i (holds_table keys values) (holds_list spells.0) holds spells.1.0 in cc)
-table_within f keys values i levels (table ps) holds spells valid deep =
+table_within f keys values i levels (table ps) long holds spells valid deep =
     let held = same_held f i (holds_table keys values) (holds_table spells.0 spells.1.0) holds spells.1.1.1.0 in
     let same : zip spells.0 spells.1.0 ≡ zip keys values = cc in
     record {
       rows = spells.1.1.0;
       pairs = ps;
-      long = length-values f i keys values holds;
+      long = long;
       moved = subst (λ (rows : List (ℕ × ℕ)). IsPermutation rows spells.1.1.0) same spells.1.1.1.1.0;
       spell = spells.1.1.1.1.1;
       valid = valid;
       deep = omega arith;
     }
 
-pub SpellsPairsWithin-table : (f keys values : List ℕ) (i levels : ℕ) → Holds f i (holds_table keys values) → SpellsWithin f i levels → SpellsPairsWithin f keys values (levels - 1)
-SpellsPairsWithin-table f keys values i levels holds within = table_within f keys values i levels within.value holds within.spells within.valid within.deep
+pub SpellsPairsWithin-table : (f keys values : List ℕ) (i levels : ℕ) → length keys ≡ length values → Holds f i (holds_table keys values) → SpellsWithin f i levels → SpellsPairsWithin f keys values (levels - 1)
+SpellsPairsWithin-table f keys values i levels long holds within = table_within f keys values i levels within.value long holds within.spells within.valid within.deep
 
 -- the keys and the values of a dictionary in the order of the file
 pub unsorted : (f keys values : List ℕ) (levels : ℕ) (within : SpellsPairsWithin f keys values levels) → Unsorted f keys values levels within.pairs
@@ -115,18 +115,6 @@ pub AreTexts-next : (f refs : List ℕ) (k i : ℕ) (keys : List (List ℕ)) (un
 AreTexts-next f refs k i keys units within is are one = record {
   spell = subst (λ (vs : Items). SpellItems f (take (k + 1) refs) vs) (sym (texts-push keys units)) (subst (λ (xs : List ℕ). SpellItems f xs (push (texts keys) (scalar (text units)))) (next refs k i within is) (SpellItems-push f (take k refs) (texts keys) i (scalar (text units)) are.spell one));
 }
-
--- references point to strings in only one way
-same_texts : (f keys : List ℕ) (us ws : List (List ℕ)) → SpellItems f keys (texts us) → SpellItems f keys (texts ws) → us ≡ ws
-same_texts f keys [] [] a b = refl
-same_texts f [] [] (w ∷ ws) a b = absurd b
-same_texts f (k ∷ keys) [] (w ∷ ws) a b = absurd (let none : k ∷ keys ≡ [] = a in cc)
-same_texts f [] (u ∷ us) ws a b = absurd a
-same_texts f (k ∷ keys) (u ∷ us) [] a b = absurd (let none : k ∷ keys ≡ [] = b in cc)
-same_texts f (k ∷ keys) (u ∷ us) (w ∷ ws) a b =
-    let held = same_held f k (holds_scalar (text u)) (holds_scalar (text w)) a.0 b.0 in
-    let rest = same_texts f keys us ws a.1 b.1 in
-    cc
 
 -- the strings of the keys of a dictionary
 pub distinct_texts : (f keys values : List ℕ) (levels : ℕ) (us : List (List ℕ)) → SpellsPairsWithin f keys values levels → AreTexts f keys us → IsDistinct same_key us

@@ -1,33 +1,36 @@
--- A dictionary has as many references to values as to keys; and the content of an object that is
--- entered.
-use Rattle.std.proofs.Common.{◌≡◌, ℕ, ◌+◌, ◌*◌, ◌/◌, ◌%◌, ◌==◌, List, [], ◌∷◌, length, drop, get_or, zero, refl, Ok, Err, Result, Bool, true, false, sym, ◌∙◌, subst, suc, ◌≤◌, ⊎_elim, inl, inr, arith, ◌-◌, ◌<◌}
-use Rattle.std.specs.Prelude.{⊤, nat_lt, if◌then◌else◌}
-use Rattle.std.specs.List.{list_all, Contains, zip}
+-- Why a node is refused. An object has fewer nodes than one that leads to it, so a cycle encodes
+-- nothing.
+use Rattle.std.proofs.Common.{◌≡◌, ℕ, ◌+◌, List, [], ◌∷◌, length, get_or, zero, refl, Ok, Err, sym, subst, suc, ◌≤◌, ⊎_elim, inl, inr, arith, ◌-◌, ◌<◌, ◌*◌, ◌/◌, ◌%◌, ◌==◌, drop, Result, Bool, true, false, ◌∙◌}
+use Rattle.std.specs.List.{Contains, zip, list_all}
 use Rattle.std.proofs.lemmas.List.Elements.{Contains-append_cases}
 use Rattle.plist_value.specs.Plist.{text, Plist, scalar, list, table, Items, no_items, item, Pairs, no_pairs, pair, IsPlist, AreItems, ArePairs}
-use Rattle.plist_object.specs.declared.object.ObjectFault.{ObjectFault}
-use Rattle.plist_object.specs.declared.object.ObjectFault.TheVariants.{NotAscii}
-use Rattle.plist_object.specs.Layout.{trailer_of, IsLaid}
-use Rattle.plist_object.specs.Objects.{Content, holds_scalar, holds_list, holds_table, ◌>>=◌, cut, content, integer_length, whole_in, simple_object, whole_object, real_object, moment_object, data_object, ascii_object, wide_object, list_object, table_object, marked_object, object_in}
-use Rattle.plist_object.specs.Places.{Holds, object_at, octets_at, what_holds}
-use Rattle.plist_object.proofs.Listed.{length-numbers}
 use Rattle.plist_value.specs.Limits.{nodes, nodes_of_items, nodes_of_pairs}
+use Rattle.plist_value.proofs.Items.{some_depth}
+use Rattle.plist_object.specs.declared.object.ObjectFault.{ObjectFault}
+use Rattle.plist_object.specs.declared.object.ObjectFault.TheVariants as object
+use Rattle.plist_object.specs.Layout.{IsLaid, trailer_of}
+use Rattle.plist_object.specs.Objects.{Content, holds_scalar, holds_list, holds_table, ◌>>=◌, cut, content, integer_length, whole_in, simple_object, whole_object, real_object, moment_object, data_object, ascii_object, wide_object, list_object, table_object, marked_object, object_in}
+use Rattle.plist_object.specs.Places.{Holds, what_holds, object_at, octets_at}
+use Rattle.plist_object.specs.References.{references_of}
 use Rattle.plist_object.specs.Spelled.{Spells, SpellItems, SpellPairs}
 use Rattle.plist_object.proofs.Ascending.{Among, Among-contains, Among-permutation, Contains-among}
 use Rattle.plist_object.proofs.Uniqueness.{same_held, same_value}
-use Rattle.plist_object.specs.References.{references_of}
-use Rattle.plist_binary.specs.Budgets.{limits}
-use Rattle.plist_binary.specs.Paths.{Refers, Leads}
-use Rattle.plist_value.specs.declared.TheConstants.{MAX_DEPTH}
-use Rattle.plist_object.specs.declared.object.ObjectFault.TheVariants as object
-use Rattle.plist_value.specs.declared.budget.Budget.{Budget}
 use Rattle.plist_binary.specs.declared.fault.BinaryFault.TheVariants.{Cycle, TooDeep, TooManyNodes}
+use Rattle.plist_binary.specs.declared.progress.Progress.{Progress}
+use Rattle.plist_binary.specs.declared.walker.Node.{Node}
+use Rattle.plist_value.specs.declared.budget.Budget.{Budget}
+use Rattle.plist_binary.specs.Begins.{Begins}
+use Rattle.plist_binary.specs.Budgets.{limits}
 use Rattle.plist_binary.specs.Codes.{of_object}
-use Rattle.plist_binary.specs.Begins.{Begins, IsBegun}
 use Rattle.plist_binary.specs.Faults.{IsFaulty, StandsWithin}
+use Rattle.plist_binary.specs.Paths.{Refers, Leads}
+use Rattle.plist_binary.specs.Progress.{IsDue, RefusesNode, above}
 use Rattle.plist_binary.specs.Readings.{Refuses}
+use Rattle.plist_binary.proofs.Beginning.{IsDue-leads}
 use Rattle.plist_binary.proofs.ItemSteps.{Spells-held}
-use Rattle.plist_value.proofs.Items.{some_depth}
+use Rattle.std.specs.Prelude.{⊤, nat_lt, if◌then◌else◌}
+use Rattle.plist_object.specs.declared.object.ObjectFault.TheVariants.{NotAscii}
+use Rattle.plist_object.proofs.Listed.{length-numbers}
 
 abbrev IsPaired : Content → Type 0
 IsPaired (holds_scalar s) = ⊤
@@ -124,7 +127,7 @@ held_paired f i = without_rest (object_at f i) (placed f i)
 pub length-values : (f : List ℕ) (i : ℕ) (keys values : List ℕ) → Holds f i (holds_table keys values) → length keys ≡ length values
 length-values f i keys values holds = subst HoldsPaired holds.reads (held_paired f i)
 
--- An object has fewer nodes than one that leads to it, so a cycle encodes nothing.
+-- An object has fewer nodes than one that leads to it.
 
 -- the object encodes a value of at most this many nodes
 pub record SpellsBelow (f : List ℕ) (i most : ℕ) : Type 0 where
@@ -219,10 +222,7 @@ descends f j i (table ps) valid spells refers most few =
     (λ (at : Contains values i). subst (λ (n : ℕ). SpellsBelow f n (nodes_of_pairs ps)) at.2 (spelled at.0 (omega (arith, long, at.1))).1)
     (Contains-append_cases keys values i among))
 
--- Why a reference to an object is refused before the object is decoded, or for the object's own
--- fault.
-
-pub some_node : (v : Plist) → 1 ≤ nodes v
+some_node : (v : Plist) → 1 ≤ nodes v
 some_node (scalar s) = omega arith
 some_node _ = omega arith
 
@@ -249,50 +249,41 @@ cycle_spells_none f containers i v leads among valid spells =
     omega arith
 
 pub Refuses-cycle : (f before : List ℕ) (container i levels : ℕ) (left : Budget) → IsLaid f → Leads f (container ∷ before) i → Among i (container ∷ before) → Refuses f i levels left (Cycle container)
-Refuses-cycle f before container i levels left laid leads among =
-    record {
-      stands = record {
-        ends = record {
-          laid = laid;
-          before = before;
-          leads = leads.1;
-        };
-        reference = i;
-        refers = leads.0;
-        on_path = Contains-among i (container ∷ before) among;
-      };
-      none = λ _ v valid spells deep affords. cycle_spells_none f (container ∷ before) i v leads among valid spells;
-    }
+Refuses-cycle f before container i levels left laid leads among = record {
+  stands = record {
+    ends = record { laid = laid; before = before; leads = leads.1 };
+    reference = i;
+    refers = leads.0;
+    on_path = Contains-among i (container ∷ before) among;
+  };
+  none = λ _ v valid spells deep affords. cycle_spells_none f (container ∷ before) i v leads among valid spells;
+}
 
-pub Refuses-nodes : (f before : List ℕ) (i levels : ℕ) (left : Budget) → IsLaid f → i < (trailer_of f).count → IsBegun f before i left → ¬ Contains before i → left.nodes ≡ 0 → Refuses f i levels left (TooManyNodes i)
-Refuses-nodes f before i levels left laid listed begun new none_left =
+pub Refuses-nodes : {f : List ℕ} {node : Node} {before : Progress} → IsLaid f → IsDue f node before → ¬ Contains (above node) node.object → before.left.nodes ≡ 0 → RefusesNode f node before (TooManyNodes node.object)
+Refuses-nodes {f} {node} laid due new none_left =
+    let begun = due.begun in
     let all : begun.nodes ≡ limits.nodes = omega (arith, begun.spent.nodes_left) in
     record {
       stands = record {
         laid = laid;
-        listed = listed;
-        before = before;
+        listed = due.listed;
+        before = above node;
         payload = begun.payload;
-        begins = subst (λ (n : ℕ). Begins f before i n begun.payload) all begun.begins;
+        begins = subst (λ (n : ℕ). Begins f (above node) node.object n begun.payload) all begun.begins;
         new = new;
         within = omega (arith, begun.spent.payload_left);
       };
       none = λ _ v valid spells deep affords. omega (arith, some_node v, affords.nodes_there);
     }
 
-pub Refuses-depth : (f before : List ℕ) (i levels : ℕ) (left : Budget) → IsLaid f → Leads f before i → length before + levels ≡ MAX_DEPTH → levels ≡ 0 → Refuses f i levels left (TooDeep i)
-Refuses-depth f before i levels left laid leads depth_left none_left =
-    record {
-      stands = record {
-        ends = record {
-          laid = laid;
-          before = before;
-          leads = leads;
-        };
-        long = omega arith;
-      };
-      none = λ _ v valid spells deep affords. omega (arith, some_depth v);
-    }
+pub Refuses-depth : {f : List ℕ} {node : Node} {before : Progress} → IsLaid f → IsDue f node before → node.levels ≡ 0 → RefusesNode f node before (TooDeep node.object)
+Refuses-depth {node = node} laid due none_left = record {
+  stands = record {
+    ends = record { laid = laid; before = above node; leads = IsDue-leads due };
+    long = omega (arith, due.depth);
+  };
+  none = λ _ v valid spells deep affords. omega (arith, some_depth v);
+}
 
 faulty_spells_none : (f : List ℕ) (i : ℕ) (e : ObjectFault) (v : Plist) → what_holds f i ≡ Err e → Spells f i v → ⊥
 faulty_spells_none f i e v fails spells =
@@ -304,17 +295,8 @@ stands-of_object : (f : List ℕ) (i nodes payload : ℕ) (e : ObjectFault) → 
 stands-of_object f i nodes payload object.BadOffset faulty = faulty
 stands-of_object f i nodes payload _ faulty = faulty
 
-pub Refuses-object : (f before : List ℕ) (i levels : ℕ) (left : Budget) (e : ObjectFault) → IsLaid f → i < (trailer_of f).count → Leads f before i → what_holds f i ≡ Err e → Refuses f i levels left (of_object i e)
-Refuses-object f before i levels left e laid listed leads fails =
-    record {
-      stands = stands-of_object f i _ _ e (record {
-        ends = record {
-          laid = laid;
-          before = before;
-          leads = leads;
-        };
-        listed = listed;
-        fails = fails;
-      });
-      none = λ _ v valid spells deep affords. faulty_spells_none f i e v fails spells;
-    }
+pub Refuses-object : {f : List ℕ} {node : Node} {before : Progress} (e : ObjectFault) → IsLaid f → IsDue f node before → what_holds f node.object ≡ Err e → RefusesNode f node before (of_object node.object e)
+Refuses-object {f} {node} e laid due fails = record {
+  stands = stands-of_object f node.object _ _ e (record { ends = record { laid = laid; before = above node; leads = IsDue-leads due }; listed = due.listed; fails = fails });
+  none = λ _ v valid spells deep affords. faulty_spells_none f node.object e v fails spells;
+}

@@ -2,22 +2,21 @@
 use Rattle.std.proofs.Common.{ℕ, List, ◌≡◌, ◌+◌, ◌≤◌, [], ◌∷◌, ◌++◌, refl, arith, ◌<◌, subst, ◌*◌, length, Ok, sym, ap, suc, take, drop, drop-cons, slice_index, ◌∙◌}
 use Rattle.plist_value.specs.Plist.{Plist, scalar, list, table, Items, no_items, item, AreItems, IsPlist, text}
 use Rattle.plist_object.specs.Objects.{Content, holds_scalar, holds_list, holds_table}
-use Rattle.plist_object.specs.Places.{Holds, what_holds}
+use Rattle.plist_object.specs.Places.{Holds}
 use Rattle.plist_object.specs.Spelled.{Spells, SpellItems}
 use Rattle.plist_value.specs.Limits.{nodes_of_items, depth_of_items, payload_of_items, nodes, depth, payload}
 use Rattle.plist_value.proofs.Items.{push, AreItems-push, nodes-push, payload-push, depth-push}
-use Rattle.plist_object.specs.Layout.{IsLaid, trailer_of}
+use Rattle.plist_object.specs.Layout.{trailer_of}
 use Rattle.plist_object.proofs.Uniqueness.{same_items, same_held}
 use Rattle.plist_value.specs.declared.budget.Budget.{Budget}
 use Rattle.plist_binary.specs.declared.fault.BinaryFault.{BinaryFault}
 use Rattle.plist_binary.specs.declared.fault.BinaryFault.TheVariants.{BadReference, KeyNotText}
 use Rattle.plist_value.specs.Budget.{Spends, Affords}
-use Rattle.plist_binary.specs.Paths.{Refers, Leads, IsKeyOf, HasKeys}
+use Rattle.plist_binary.specs.Paths.{EndsPath, Refers, IsKeyOf}
 use Rattle.plist_binary.specs.Readings.{Reads, Refuses, ReadsItems, RefusesItems, texts, RefusesKey, RefusesKeys}
 use Rattle.plist_binary.specs.Faults.{IsText}
 use Rattle.std.proofs.lemmas.List.{take_more, take-append-drop, get_or_default}
 use Rattle.std.specs.List.{Contains}
-use Rattle.std.proofs.lemmas.List.Elements.{Contains-append_left}
 
 -- an object that encodes a value can be decoded
 pub Spells-held : (f : List ℕ) (i : ℕ) (v : Plist) → Spells f i v → (held : Content) × Holds f i held
@@ -166,27 +165,15 @@ first_nowhere f i rest (item w ws) above spell =
     omega (arith, held.1.listed)
 
 -- a reference to no object
-pub RefusesItems-nowhere : (f before refs : List ℕ) (container i : ℕ) (rest : List ℕ) (levels : ℕ) (left : Budget) → IsLaid f → Leads f before container → Refers f container i → (trailer_of f).count ≤ i → RefusesItems f (refs ++ i ∷ rest) levels left (BadReference container)
-RefusesItems-nowhere f before refs container i rest levels left laid leads refers above = record {
-  stands = record {
-    ends = record { laid = laid; before = before; leads = leads };
-    reference = i;
-    refers = refers;
-    above = above;
-  };
+pub RefusesItems-nowhere : (f refs : List ℕ) (container i : ℕ) (rest : List ℕ) (levels : ℕ) (left : Budget) → EndsPath f container → Refers f container i → (trailer_of f).count ≤ i → RefusesItems f (refs ++ i ∷ rest) levels left (BadReference container)
+RefusesItems-nowhere f refs container i rest levels left ends refers above = record {
+  stands = record { ends = ends; reference = i; refers = refers; above = above };
   none = λ _ ws valid spell deep affords.
       let parts = take_apart f refs (i ∷ rest) ws spell valid in
       first_nowhere f i rest parts.back above parts.spell_back;
 }
 
 -- The keys of a dictionary, reference by reference.
-
-pub Refers-key : (f : List ℕ) (j i : ℕ) → IsKeyOf f j i → Refers f j i
-Refers-key f j i key = record {
-  held = holds_table key.keys key.table.values;
-  holds = key.table.holds;
-  among = Contains-append_left key.keys key.table.values i key.among;
-}
 
 -- what refuses every value refuses every string
 pub RefusesKey-value : (f : List ℕ) (i levels : ℕ) (left : Budget) (fault : BinaryFault) → Refuses f i levels left fault → RefusesKey f i levels left fault
@@ -195,20 +182,20 @@ RefusesKey-value f i levels left fault refused = record {
   none = λ unless units valid spells deep affords. refused.none unless (scalar (text units)) valid spells deep affords;
 }
 
-pub RefusesKey-other : (f before : List ℕ) (table i levels : ℕ) (left : Budget) (held : Content) → IsLaid f → Leads f before table → IsKeyOf f table i → i < (trailer_of f).count → what_holds f i ≡ Ok held → (¬ IsText held) → RefusesKey f i levels left (KeyNotText table)
-RefusesKey-other f before owner i levels left held laid leads key listed reads no_text = record {
+pub RefusesKey-other : (f : List ℕ) (table i levels : ℕ) (left : Budget) (held : Content) → IsKeyOf f table i → Holds f i held → (¬ IsText held) → RefusesKey f i levels left (KeyNotText table)
+RefusesKey-other f owner i levels left held key reads no_text = record {
   stands = record {
-    ends = record { laid = laid; before = before; leads = leads };
+    ends = key.ends;
     keys = key.keys;
     values = key.table.values;
     holds = key.table.holds;
     key = i;
     among = key.among;
     held = held;
-    reads = record { listed = listed; reads = reads };
+    reads = reads;
     no_text = no_text;
   };
-  none = λ _ units valid spells deep affords. no_text (subst IsText (same_held f i (holds_scalar (text units)) held spells record { listed = listed; reads = reads }) tt);
+  none = λ _ units valid spells deep affords. no_text (subst IsText (same_held f i (holds_scalar (text units)) held spells reads) tt);
 }
 
 pub texts-push : (keys : List (List ℕ)) (units : List ℕ) → texts (keys ++ units ∷ []) ≡ push (texts keys) (scalar (text units))
@@ -241,7 +228,7 @@ pub RefusesKeys-at : (f refs : List ℕ) (i : ℕ) (rest : List ℕ) (levels : �
 RefusesKeys-at f refs i rest levels before left vs fault listed items one =
     record {
       stands = one.stands;
-      none = λ unless keys valid spell deep affords.
+      none = λ unless keys valid spell _ deep affords.
           let behind = texts_behind f refs (i ∷ rest) keys spell valid in
           refused_at f refs i rest levels before left vs (texts keys) items valid spell deep affords (subst (Misfit f levels (i ∷ rest) left) (sym behind.same) (first_key_refused f i rest levels left behind.keys (one.none unless)));
     }
@@ -250,7 +237,7 @@ RefusesKeys-at f refs i rest levels before left vs fault listed items one =
 pub RefusesKeys-items : (f refs : List ℕ) (levels : ℕ) (left : Budget) (fault : BinaryFault) → RefusesItems f refs levels left fault → RefusesKeys f refs levels left fault
 RefusesKeys-items f refs levels left fault refused = record {
   stands = refused.stands;
-  none = λ unless keys. refused.none unless (texts keys);
+  none = λ unless keys valid spell _. refused.none unless (texts keys) valid spell;
 }
 
 -- One step of a loop over references, by index.
@@ -276,9 +263,9 @@ pub RefusesItems-next : (f refs : List ℕ) (k i levels : ℕ) (before left : Bu
 RefusesItems-next f refs k i levels before left vs fault within is listed items one =
     subst (λ (xs : List ℕ). RefusesItems f xs levels before fault) (around refs k i within is) (RefusesItems-at f (take k refs) i (drop (suc k) refs) levels before left vs fault listed items one)
 
-pub RefusesItems-none : (f containers refs : List ℕ) (container k i levels : ℕ) (before : Budget) → IsLaid f → Leads f containers container → Refers f container i → k < length refs → i ≡ slice_index refs k → (trailer_of f).count ≤ i → RefusesItems f refs levels before (BadReference container)
-RefusesItems-none f containers refs container k i levels before laid leads refers within is above =
-    subst (λ (xs : List ℕ). RefusesItems f xs levels before (BadReference container)) (around refs k i within is) (RefusesItems-nowhere f containers (take k refs) container i (drop (suc k) refs) levels before laid leads refers above)
+pub RefusesItems-none : (f refs : List ℕ) (container k i levels : ℕ) (before : Budget) → EndsPath f container → Refers f container i → k < length refs → i ≡ slice_index refs k → (trailer_of f).count ≤ i → RefusesItems f refs levels before (BadReference container)
+RefusesItems-none f refs container k i levels before ends refers within is above =
+    subst (λ (xs : List ℕ). RefusesItems f xs levels before (BadReference container)) (around refs k i within is) (RefusesItems-nowhere f (take k refs) container i (drop (suc k) refs) levels before ends refers above)
 
 pub ReadsKeys-next : (f refs : List ℕ) (k i levels : ℕ) (before left after : Budget) (keys : List (List ℕ)) (units : List ℕ) → k < length refs → i ≡ slice_index refs k → i < (trailer_of f).count → ReadsItems f (take k refs) levels before (texts keys) left → Reads f i levels left (scalar (text units)) after → ReadsItems f (take (k + 1) refs) levels before (texts (keys ++ units ∷ [])) after
 ReadsKeys-next f refs k i levels before left after keys units within is listed items one =
@@ -287,7 +274,3 @@ ReadsKeys-next f refs k i levels before left after keys units within is listed i
 pub RefusesKeys-next : (f refs : List ℕ) (k i levels : ℕ) (before left : Budget) (vs : Items) (fault : BinaryFault) → k < length refs → i ≡ slice_index refs k → i < (trailer_of f).count → ReadsItems f (take k refs) levels before vs left → RefusesKey f i levels left fault → RefusesKeys f refs levels before fault
 RefusesKeys-next f refs k i levels before left vs fault within is listed items one =
     subst (λ (xs : List ℕ). RefusesKeys f xs levels before fault) (around refs k i within is) (RefusesKeys-at f (take k refs) i (drop (suc k) refs) levels before left vs fault listed items one)
-
-pub RefusesKeys-none : (f containers refs : List ℕ) (table k i levels : ℕ) (before : Budget) → IsLaid f → Leads f containers table → HasKeys f table refs → k < length refs → i ≡ slice_index refs k → (trailer_of f).count ≤ i → RefusesKeys f refs levels before (BadReference table)
-RefusesKeys-none f containers refs owner k i levels before laid leads keys within is above =
-    RefusesKeys-items f refs levels before (BadReference owner) (RefusesItems-none f containers refs owner k i levels before laid leads (Refers-key f owner i record { keys = refs; table = keys; among = Contains-at refs k i within is }) within is above)

@@ -1,10 +1,11 @@
 -- What is passed, from its content, its items or its pairs, or from what was known of it.
-use Rattle.std.proofs.Common.{◌≡◌, ℕ, ◌+◌, ◌<◌, ◌≤◌, Bool, true, refl, max, List, [], ◌∷◌, ◌++◌, length, map, take, slice_index, Ok, ap, sym, ◌∙◌, subst, arith}
+use Rattle.std.proofs.Common.{◌≡◌, ℕ, ◌+◌, ◌-◌, ◌<◌, ◌≤◌, Bool, true, refl, max, List, [], ◌∷◌, ◌++◌, length, map, take, slice_index, Ok, ap, sym, ◌∙◌, subst, arith}
 use Rattle.std.specs.Prelude.{◌&&◌}
 use Rattle.std.specs.Ordering.{nat_cmp}
 use Rattle.std.specs.Cmp.Lexicographic.{slice_cmp}
 use Rattle.std.specs.List.{zip}
 use Rattle.std.specs.List.Sorted.{IsPermutation, IsStrictlySortedBy}
+use Rattle.std.proofs.lemmas.Bool.{and_parts}
 use Rattle.std.proofs.lemmas.List.Sorted.{IsPermutation-map}
 use Rattle.std.proofs.lemmas.Slice.Zip.{seconds-zip}
 use Rattle.plist_value.specs.declared.budget.Budget.{Budget}
@@ -12,13 +13,16 @@ use Rattle.plist_value.specs.Budget.{Spends}
 use Rattle.plist_value.specs.Plist.{Scalar, Plist, scalar, text, list, table, Items, IsScalar}
 use Rattle.plist_value.specs.Limits.{payload_of_scalar}
 use Rattle.plist_value.specs.View.{items_of, pairs_of}
-use Rattle.plist_value.specs.Writable.{is_writable, is_writable_scalar}
+use Rattle.plist_value.specs.Writable.{is_writable, is_writable_scalar, are_writable_items, are_writable_pairs}
 use Rattle.plist_object.specs.Layout.{trailer_of}
 use Rattle.plist_object.specs.Objects.{holds_scalar, holds_list, holds_table}
-use Rattle.plist_object.specs.Places.{what_holds}
+use Rattle.plist_object.specs.Places.{Holds}
 use Rattle.plist_binary.specs.declared.states.ValueSize.{ValueSize}
-use Rattle.plist_binary.specs.States.{HasText, IsKey, IsValueSize}
+use Rattle.plist_binary.specs.States.{IsKey, IsValueSize}
+use Rattle.plist_binary.specs.declared.progress.Progress.{Progress}
+use Rattle.plist_binary.specs.declared.walker.Node.{Node}
 use Rattle.plist_binary.specs.Passing.{Passes, PassesItems, PassesPairs}
+use Rattle.plist_binary.specs.Progress.{IsTaken}
 use Rattle.plist_binary.specs.Readings.{Reads, ReadsItems, ReadsKey, texts}
 use Rattle.plist_binary.proofs.Ascents.{zip-firsts}
 use Rattle.plist_binary.proofs.ItemSteps.{ReadsItems-next, Spends-then, Spends-none}
@@ -29,8 +33,8 @@ use Rattle.plist_value.proofs.Items.{items_of-push, depth-push}
 use Rattle.plist_binary.proofs.TableSteps.{ReadsPairs-sorted, pairs_sorted, depth-texts, length-texts, length-items}
 
 -- a value that is known and fits
-pub Passes-size : (f : List ℕ) (i levels : ℕ) (before after : Budget) (size : ValueSize) (all : Bool) → IsValueSize f i size → size.depth ≤ levels → Spends before size.nodes size.payload after → (all ≡ true → HasText f i) → Passes f i levels before size.depth after all all
-Passes-size f i levels before after size all is fits spent has =
+pub Passes-size : (f : List ℕ) (i levels : ℕ) (before after : Budget) (size : ValueSize) (all : Bool) → IsValueSize f all i size → size.depth ≤ levels → Spends before size.nodes size.payload after → Passes f i levels before size.depth after all all
+Passes-size f i levels before after size all is fits spent =
     record {
       value = is.value;
       reads = record {
@@ -39,51 +43,48 @@ Passes-size f i levels before after size all is fits spent has =
         deep = omega (arith, is.deep);
         spent = Spends-then spent (Spends-none after) (omega (arith, is.nodes_are)) (omega (arith, is.payload_is));
       };
-      writable = kept all (is_writable is.value) (λ h. has h is.value is.valid is.spells);
+      writable = kept all (is_writable is.value) is.writable;
       depth_is = is.deep;
       within = fits;
     }
 
--- by what was so before
-pub Passes-from : {f : List ℕ} {i levels : ℕ} {before : Budget} {deep : ℕ} {after : Budget} {first same all : Bool} → first ≡ same → Passes f i levels before deep after first all → Passes f i levels before deep after same all
-Passes-from is passed = rw is at passed
-
 -- what was passed is known afterwards
-pub IsValueSize-passed : {first all : Bool} (f : List ℕ) (i levels : ℕ) (before after : Budget) (deep : ℕ) (size : ValueSize) → Passes f i levels before deep after first all → after.nodes + size.nodes ≡ before.nodes → after.payload + size.payload ≡ before.payload → size.depth ≡ deep → IsValueSize f i size
-IsValueSize-passed f i levels before after deep size passed nodes_gone payload_gone depth_is = record {
+pub IsValueSize-passed : {f : List ℕ} {i levels deep : ℕ} {before after : Budget} {first all : Bool} (size : ValueSize) → Passes f i levels before deep after first all → after.nodes + size.nodes ≡ before.nodes → after.payload + size.payload ≡ before.payload → size.depth ≡ deep → IsValueSize f all i size
+IsValueSize-passed {first = first} size passed nodes_gone payload_gone depth_is = record {
   value = passed.value;
   spells = passed.reads.spells;
   valid = passed.reads.valid;
   nodes_are = omega (arith, nodes_gone, passed.reads.spent.nodes_left);
   payload_is = omega (arith, payload_gone, passed.reads.spent.payload_left);
   deep = omega (arith, passed.depth_is, depth_is);
+  writable = λ is. (and_parts first (is_writable passed.value) (sym passed.writable ∙ is)).1;
 }
 
-pub Passes-scalar : {first all : Bool} (f : List ℕ) (i levels : ℕ) (before left after : Budget) (s : Scalar) → i < (trailer_of f).count → what_holds f i ≡ Ok (holds_scalar s) → IsScalar s → 1 ≤ levels → Spends before 1 0 left → Spends left 0 (payload_of_scalar s) after → all ≡ (first && is_writable_scalar s) → Passes f i levels before 1 after first all
-Passes-scalar f i levels before left after s listed reads valid deep node spent writable = record {
+pub Passes-scalar : {f : List ℕ} {node : Node} {before left : Progress} {all : Bool} (after : Budget) (s : Scalar) → Holds f node.object (holds_scalar s) → IsScalar s → IsTaken f node before left → Spends left.left 0 (payload_of_scalar s) after → all ≡ (left.writable && is_writable_scalar s) → Passes f node.object node.levels before.left 1 after before.writable all
+Passes-scalar after s holds valid taken spent writable = record {
   value = scalar s;
-  writable = writable;
-  reads = Reads-scalar f i levels before left after s listed reads valid deep node spent;
+  writable = writable ∙ ap (λ (b : Bool). b && is_writable_scalar s) taken.so_far.writable;
+  reads = Reads-scalar after s holds valid taken spent;
   depth_is = omega arith;
-  within = deep;
+  within = taken.deep;
 }
 
-pub Passes-list : {first all : Bool} (f refs : List ℕ) (i levels below : ℕ) (before left after : Budget) (deep : ℕ) → 1 + below ≡ levels → i < (trailer_of f).count → what_holds f i ≡ Ok (holds_list refs) → Spends before 1 0 left → PassesItems f refs below left deep after first all → Passes f i levels before (1 + deep) after first all
-Passes-list f refs i levels below before left after deep levels_is listed reads node items = record {
+pub Passes-list : {f : List ℕ} {node : Node} {before left : Progress} {after : Budget} {deep : ℕ} {all : Bool} (refs : List ℕ) → Holds f node.object (holds_list refs) → IsTaken f node before left → PassesItems f refs (node.levels - 1) left.left deep after left.writable all → Passes f node.object node.levels before.left (1 + deep) after before.writable all
+Passes-list {after = after} refs holds taken items = record {
   value = list (items_of items.values);
-  writable = items.writable;
-  reads = Reads-list f refs i levels below before left after (items_of items.values) levels_is listed reads node items.reads;
+  writable = items.writable ∙ ap (λ (b : Bool). b && are_writable_items (items_of items.values)) taken.so_far.writable;
+  reads = Reads-list refs after (items_of items.values) holds taken items.reads;
   depth_is = omega (arith, items.depth_is);
-  within = omega (arith, items.within);
+  within = omega (arith, items.within, taken.deep);
 }
 
-pub Passes-table : {first all : Bool} (f keys values : List ℕ) (i levels below : ℕ) (before left after : Budget) (deep : ℕ) → 1 + below ≡ levels → i < (trailer_of f).count → what_holds f i ≡ Ok (holds_table keys values) → Spends before 1 0 left → PassesPairs f keys values below left deep after first all → Passes f i levels before (1 + deep) after first all
-Passes-table f keys values i levels below before left after deep levels_is listed reads node passed = record {
+pub Passes-table : {f : List ℕ} {node : Node} {before left : Progress} {after : Budget} {deep : ℕ} {first all : Bool} (keys values : List ℕ) → Holds f node.object (holds_table keys values) → IsTaken f node before left → first ≡ left.writable → PassesPairs f keys values (node.levels - 1) left.left deep after first all → Passes f node.object node.levels before.left (1 + deep) after before.writable all
+Passes-table {after = after} keys values holds taken same passed = record {
   value = table passed.pairs;
-  writable = passed.writable;
-  reads = Reads-table f keys values i levels below before left after passed.pairs levels_is listed reads node passed.reads;
+  writable = passed.writable ∙ ap (λ (b : Bool). b && are_writable_pairs passed.pairs) (same ∙ taken.so_far.writable);
+  reads = Reads-table keys values after passed.pairs holds taken passed.reads;
   depth_is = omega (arith, passed.depth_is);
-  within = omega (arith, passed.within);
+  within = omega (arith, passed.within, taken.deep);
 }
 
 pub PassesItems-next : {first so_far all : Bool} (f refs : List ℕ) (k i levels : ℕ) (before left after : Budget) (deepest deep : ℕ) → k < length refs → i ≡ slice_index refs k → i < (trailer_of f).count → PassesItems f (take k refs) levels before deepest left first so_far → Passes f i levels left deep after so_far all → PassesItems f (take (k + 1) refs) levels before (max deepest deep) after first all
@@ -126,14 +127,15 @@ IsKey-read f i levels before after units size reads gone = record {
   payload_is = omega (arith, gone, reads.spent.payload_left);
 }
 
-pub IsValueSize-key : (f : List ℕ) (i size : ℕ) → IsKey f i size → IsValueSize f i record { depth = 1; nodes = 1; payload = size }
-IsValueSize-key f i size key = record {
+pub IsValueSize-key : (f : List ℕ) (all : Bool) (i size : ℕ) → IsKey f i size → IsValueSize f all i record { depth = 1; nodes = 1; payload = size }
+IsValueSize-key f all i size key = record {
   value = scalar (text key.units);
   spells = key.spells;
   valid = key.valid;
   nodes_are = refl;
   payload_is = key.payload_is;
   deep = omega arith;
+  writable = λ _. refl;
 }
 
 pub ReadsKey-known : (f : List ℕ) (i levels size : ℕ) (before after : Budget) → IsKey f i size → 1 ≤ levels → Spends before 1 size after → ReadsKey f i levels before after

@@ -1,5 +1,5 @@
 -- The keys of a dictionary as they are kept, recalled and sorted.
-use Rattle.std.proofs.Common.{◌≡◌, ℕ, ◌-◌, ◌≤◌, List, [], ◌∷◌, length, refl, arith, ◌++◌, get_or, take, drop, slice_index, sym, ap, subst, ◌∙◌}
+use Rattle.std.proofs.Common.{◌≡◌, ℕ, ◌-◌, ◌<◌, ◌≤◌, List, [], ◌∷◌, length, refl, arith, ◌++◌, get_or, take, drop, slice_index, sym, ap, subst, ◌∙◌}
 use Rattle.std.specs.Ordering.{nat_cmp}
 use Rattle.std.specs.Cmp.Lexicographic.{slice_cmp}
 use Rattle.std.specs.List.{IsDistinct, range_with_len}
@@ -14,13 +14,17 @@ use Rattle.plist_value.specs.declared.budget.Budget.{Budget}
 use Rattle.plist_value.specs.Budget.{Spends}
 use Rattle.plist_keys.specs.Order.{Ascend, IsInOrder, NameTexts, strings_at}
 use Rattle.plist_object.specs.Places.{units_in}
-use Rattle.plist_object.specs.Places.{what_holds}
+use Rattle.plist_value.specs.Plist.{text}
+use Rattle.plist_object.specs.Objects.{holds_scalar}
+use Rattle.plist_object.specs.Places.{Holds, what_holds}
 use Rattle.plist_object.specs.Spelled.{SpellItems}
 use Rattle.plist_keys.proofs.Ascents.{same_key, strict_from_distinct}
 use Rattle.plist_binary.proofs.ItemSteps.{Spends-then, Spends-none}
-use Rattle.plist_binary.specs.Readings.{ReadsItems, texts}
+use Rattle.plist_binary.specs.declared.fault.BinaryFault.TheVariants.{DuplicateKey}
+use Rattle.plist_binary.specs.Paths.{EndsPath, HasKeys}
+use Rattle.plist_binary.specs.Readings.{ReadsItems, RefusesKeys, texts}
 use Rattle.plist_binary.specs.Recalls.{SpellApart, ReadsApart}
-use Rattle.plist_binary.proofs.TableSteps.{length-texts, key_held}
+use Rattle.plist_binary.proofs.TableSteps.{length-texts, key_held, twice}
 
 nodes-texts : (keys : List (List ℕ)) → nodes_of_items (texts keys) ≡ length keys
 nodes-texts [] = refl
@@ -87,6 +91,31 @@ pub ascend_distinct : (f refs places : List ℕ) (us : List (List ℕ)) → Spel
 ascend_distinct f refs places us spell order distinct =
     let moved = strings_moved f refs places us spell order in
     strict_from_distinct (strings_at f refs places) order.sorted (IsDistinct-IsPermutation same_key (eq_by_cmp_equiv nat_list_cmp_total).symm us (strings_at f refs places) moved distinct)
+
+-- references point to strings in only one way
+pub same_texts : (f refs : List ℕ) (us ws : List (List ℕ)) → SpellItems f refs (texts us) → SpellItems f refs (texts ws) → us ≡ ws
+same_texts f refs us ws first second = strings_read f refs us first ∙ sym (strings_read f refs ws second)
+
+-- two of the keys are equal
+pub RefusesKeys-twice : (f keys : List ℕ) (owner levels : ℕ) (before left : Budget) (us : List (List ℕ)) → EndsPath f owner → HasKeys f owner keys → ReadsItems f keys levels before (texts us) left → (IsDistinct same_key us → ⊥) → RefusesKeys f keys levels before (DuplicateKey owner)
+RefusesKeys-twice f keys owner levels before left us ends has read not_distinct =
+    let found = twice us not_distinct in
+    record {
+      stands = record {
+        ends = ends;
+        keys = keys;
+        values = has.values;
+        holds = has.holds;
+        first = found.first;
+        second = found.second;
+        apart = found.apart;
+        within = omega (arith, found.within, length-texts f keys us read.spell);
+        units = get_or us found.second [];
+        first_reads = subst (λ (u : List ℕ). Holds f (slice_index keys found.first) (holds_scalar (text u))) found.same (key_held f keys us found.first (omega (arith, found.apart, found.within)) read.spell);
+        second_reads = key_held f keys us found.second found.within read.spell;
+      };
+      none = λ _ ws valid spell distinct deep affords. not_distinct (subst (λ (l : List (List ℕ)). IsDistinct same_key l) (same_texts f keys ws us spell read.spell) distinct);
+    }
 
 -- a list that was sorted in place
 pub seen_sorted : {A : Type 0} (n : ℕ) (keys written sorted seen : List A) → n ≡ length keys → written ≡ keys → IsPermutation written sorted → seen ≡ take n (sorted ++ drop (length sorted) keys) → seen ≡ sorted

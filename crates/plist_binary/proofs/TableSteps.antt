@@ -13,15 +13,12 @@ use Rattle.plist_value.specs.declared.value.Value.{Value}
 use Rattle.plist_value.specs.Plist.{text, Plist, Pairs, AreItems, ArePairs}
 use Rattle.plist_value.specs.Limits.{nodes_of_items, depth_of_items, payload_of_items, nodes_of_pairs, depth_of_pairs, payload_of_pairs}
 use Rattle.plist_value.specs.View.{view, items_of, pairs_of, view_items, view_pairs}
-use Rattle.plist_object.specs.Layout.{IsLaid}
-use Rattle.plist_object.specs.Objects.{holds_scalar, holds_table}
+use Rattle.plist_object.specs.Objects.{holds_scalar}
 use Rattle.plist_object.specs.Places.{Holds}
 use Rattle.plist_object.specs.Spelled.{SpellItems, SpellPairs}
 use Rattle.plist_object.proofs.Uniqueness.{same_items}
 use Rattle.plist_value.specs.declared.budget.Budget.{Budget}
 use Rattle.plist_binary.specs.declared.fault.BinaryFault.{BinaryFault}
-use Rattle.plist_binary.specs.declared.fault.BinaryFault.TheVariants.{DuplicateKey}
-use Rattle.plist_binary.specs.Paths.{Leads}
 use Rattle.plist_binary.specs.Readings.{ReadsItems, RefusesItems, texts, RefusesKeys, ReadsPairs, RefusesPairs}
 use Rattle.plist_binary.specs.Building.{PairsSpelled}
 use Rattle.plist_binary.proofs.Ascents.{distinct_moved, same_key, zip-firsts, zip-seconds}
@@ -77,7 +74,7 @@ RefusesPairs-keys f keys values levels left fault long refused = record {
   stands = refused.stands;
   none = λ unless rows ps moved spell valid deep affords.
       let apart = unsort f keys values levels rows ps long moved spell valid deep in
-      refused.none unless apart.us apart.valid_keys apart.spell_keys apart.deep_keys (Affords-rest (Spends-none left) affords (omega (arith, apart.nodes_sum)) (omega (arith, apart.payload_sum)));
+      refused.none unless apart.us apart.valid_keys apart.spell_keys apart.distinct apart.deep_keys (Affords-rest (Spends-none left) affords (omega (arith, apart.nodes_sum)) (omega (arith, apart.payload_sum)));
 }
 
 -- the values are refused, after keys that were read
@@ -94,12 +91,12 @@ RefusesPairs-values f keys values levels before left us fault long read refused 
     }
 
 -- two of the keys are equal
-record Twice (us : List (List ℕ)) : Type 0 where
-  first : ℕ
-  second : ℕ
-  apart : first < second
-  within : second < length us
-  same : get_or us first [] ≡ get_or us second []
+pub record Twice (us : List (List ℕ)) : Type 0 where
+  pub first : ℕ
+  pub second : ℕ
+  pub apart : first < second
+  pub within : second < length us
+  pub same : get_or us first [] ≡ get_or us second []
 
 occurs : (u : List ℕ) (us : List (List ℕ)) → AllByRecursion (λ w. same_key u w ≡ false) us ⊎ ((k : ℕ) × ((k < length us) × (get_or us k [] ≡ u)))
 occurs u [] = inl tt
@@ -138,7 +135,7 @@ twice_or_distinct (u ∷ us) =
     })
     (occurs u us)
 
-twice : (us : List (List ℕ)) → (IsDistinct same_key us → ⊥) → Twice us
+pub twice : (us : List (List ℕ)) → (IsDistinct same_key us → ⊥) → Twice us
 twice us not_distinct =
     ⊎_elim (λ (distinct : IsDistinct same_key us). absurd (not_distinct distinct)) (λ (found : Twice us). found) (twice_or_distinct us)
 
@@ -159,38 +156,6 @@ key_held f keys [] k within spell = absurd (omega arith)
 key_held f [] (u ∷ us) k within spell = absurd spell
 key_held f (i ∷ keys) (u ∷ us) zero within spell = spell.0
 key_held f (i ∷ keys) (u ∷ us) (suc k) within spell = key_held f keys us k (omega arith) spell.1
-
-texts_same : (us ws : List (List ℕ)) → texts us ≡ texts ws → us ≡ ws
-texts_same [] [] same = refl
-texts_same (u ∷ us) (w ∷ ws) same =
-    let rest : texts us ≡ texts ws = cc in
-    let others = texts_same us ws rest in
-    let first : u ≡ w = cc in
-    cc
-texts_same _ _ same = absurd (cc)
-
-pub RefusesPairs-twice : (f containers keys values : List ℕ) (table levels : ℕ) (before left : Budget) (us : List (List ℕ)) → IsLaid f → Leads f containers table → Holds f table (holds_table keys values) → length keys ≡ length values → ReadsItems f keys levels before (texts us) left → (IsDistinct same_key us → ⊥) → RefusesPairs f keys values levels before (DuplicateKey table)
-RefusesPairs-twice f containers keys values table levels before left us laid leads holds long read not_distinct =
-    let found = twice us not_distinct in
-    record {
-      stands = record {
-        ends = record { laid = laid; before = containers; leads = leads };
-        keys = keys;
-        values = values;
-        holds = holds;
-        first = found.first;
-        second = found.second;
-        apart = found.apart;
-        within = omega (arith, found.within, length-texts f keys us read.spell);
-        units = get_or us found.second [];
-        first_reads = subst (λ (u : List ℕ). Holds f (slice_index keys found.first) (holds_scalar (text u))) found.same (key_held f keys us found.first (omega (arith, found.apart, found.within)) read.spell);
-        second_reads = key_held f keys us found.second found.within read.spell;
-      };
-      none = λ _ rows ps moved spell valid deep affords.
-          let apart = unsort f keys values levels rows ps long moved spell valid deep in
-          let same = same_items f keys (texts apart.us) (texts us) apart.valid_keys read.valid apart.spell_keys read.spell in
-          not_distinct (subst (λ (l : List (List ℕ)). IsDistinct same_key l) (texts_same apart.us us same) apart.distinct);
-    }
 
 -- the pairs of keys and values, in the order of the keys
 pub record SortedPairs (f keys values : List ℕ) (levels : ℕ) (ps : Pairs) : Type 0 where

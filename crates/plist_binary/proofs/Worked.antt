@@ -172,7 +172,7 @@ own-nodes few most stands = none stands.before stands.payload stands.begins stan
   none : (before : List ℕ) (payload : ℕ) → Begins own before 0 (suc few) payload → ¬ Contains before 0 → ⊥
   none [] payload begins new = omega (arith, begins.1)
   none (j ∷ before) payload begins new =
-      let refers = Comes-refers own j 0 begins.values begins.comes in
+      let refers = Comes-refers 0 begins.comes (0, lit< tt, refl) in
       let only : j ≡ 0 = (let listed = refers.holds.listed in omega (arith, listed)) in
       new (Contains-among 0 (j ∷ before) (inl (sym only)))
 
@@ -306,4 +306,4 @@ shared-top : StandsWithin shared 2 0 (TooManyNodes 0) → ⊥
 shared-top stands = top stands.before stands.payload stands.begins where
   top : (before : List ℕ) (payload : ℕ) → Begins shared before 0 2 payload → ⊥
   top [] payload begins = omega (arith, begins.1)
-  top (j ∷ before) payload begins = omega (arith, (shared-refers j 0 (Comes-refers shared j 0 begins.values begins.comes)).1)
+  top (j ∷ before) payload begins = omega (arith, (shared-refers j 0 (Comes-refers 0 begins.comes (0, lit< tt, refl))).1)

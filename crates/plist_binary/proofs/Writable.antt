@@ -5,15 +5,10 @@ use Rattle.std.specs.List.{list_any}
 use Rattle.std.specs.List.Sorted.{IsPermutation}
 use Rattle.std.proofs.Math.Bool.{and_assoc}
 use Rattle.std.proofs.lemmas.List.Sorted.{list_any-IsPermutation}
-use Rattle.plist_value.specs.Plist.{Plist, Items, no_items, item, IsPlist}
+use Rattle.plist_value.specs.Plist.{Plist, Items, no_items, item}
 use Rattle.plist_value.specs.View.{items_of, pairs_of}
 use Rattle.plist_value.specs.Writable.{is_writable, are_writable_items, are_writable_pairs}
 use Rattle.plist_value.proofs.Items.{push, items_of-push}
-use Rattle.plist_object.specs.Spelled.{Spells}
-use Rattle.plist_object.proofs.Uniqueness.{same_value}
-use Rattle.plist_binary.specs.declared.states.ObjectState.{ObjectState}
-use Rattle.plist_binary.specs.States.{HasText, HaveTexts, IsRecorded, IsVisited}
-use Rattle.plist_binary.proofs.Making.{marked}
 
 and_true : (b : Bool) → (b && true) ≡ b
 and_true true = refl
@@ -45,11 +40,6 @@ pub writable-moved : (vs : List Plist) (ps : List (List ℕ × Plist)) → IsPer
 writable-moved vs ps moved =
     pairs_lack ps ∙ ap not (sym (list_any-IsPermutation lacks vs (map (λ p. p.1) ps) moved)) ∙ sym (items_lack vs)
 
--- the value that an object encodes, found writable
-pub HasText-of : (f : List ℕ) (i : ℕ) (v : Plist) → IsPlist v → Spells f i v → is_writable v ≡ true → HasText f i
-HasText-of f i v valid spells is = λ w valid_w spells_w.
-    ap is_writable (same_value f i w v valid_w valid spells_w spells) ∙ is
-
 -- the items so far, and one more
 pub writable-next : (first so_far all : Bool) (vs : List Plist) (v : Plist) → so_far ≡ (first && are_writable_items (items_of vs)) → all ≡ (so_far && is_writable v) → all ≡ (first && are_writable_items (items_of (vs ++ v ∷ [])))
 writable-next first so_far all vs v before is =
@@ -60,13 +50,3 @@ writable-next first so_far all vs v before is =
 pub kept : (all b : Bool) → (all ≡ true → b ≡ true) → all ≡ (all && b)
 kept true b is = sym (is refl)
 kept false b is = refl
-
--- one more object was visited, and its value is writable if so said
-pub HaveTexts-marked : (f : List ℕ) (before after : List ObjectState) (j : ℕ) (state : ObjectState) (writable : Bool) → IsRecorded before j state after → (writable ≡ true → IsVisited state → HasText f j) → HaveTexts f before writable → HaveTexts f after writable
-HaveTexts-marked f before after j state writable mark here texts = λ is i.
-    marked (λ k s. IsVisited s → HasText f k) before after j state i mark (here is) (λ _. texts is i)
-
--- what was visited before is writable if all is
-pub HaveTexts-all : (f : List ℕ) (states : List ObjectState) (first rest : Bool) → HaveTexts f states first → HaveTexts f states (first && rest)
-HaveTexts-all f states true rest texts = λ _. texts refl
-HaveTexts-all f states false rest texts = λ is. absurd (cc)

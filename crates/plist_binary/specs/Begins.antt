@@ -23,26 +23,26 @@ payload_read (Ok (holds_list refs)) = 0
 payload_read (Ok (holds_table keys values)) = 0
 payload_read (Err e) = 0
 
--- object j refers to i, after references to these values
-pub record Comes (f : List ℕ) (j i : ℕ) (vs : Items) : Type 0 where
+-- object j contains these references one after the other, after references to these values
+pub record Comes (f : List ℕ) (j : ℕ) (refs : List ℕ) (vs : Items) : Type 0 where
   pub held : Content
   pub holds : Holds f j held
   pub front : List ℕ
   pub behind : List ℕ
-  pub all : references_of held ≡ front ++ i ∷ behind
+  pub all : references_of held ≡ front ++ (refs ++ behind)
   pub spell : SpellItems f front vs
   pub valid : AreItems vs
 
--- before i come: what comes before the container j, which is not on its own path; j itself; and the
--- values of its references before the one to i, none of them too deep
-pub record BeginsIn (f before : List ℕ) (begins : ℕ → ℕ → Type 0)
-    (j i nodes payload : ℕ) : Type 0 where
+-- before the references come: what comes before the container j, which is not on its own path; j
+-- itself; and the values of its references before them, none of them too deep
+pub record BeginsIn (f before : List ℕ) (begins : ℕ → ℕ → Type 0) (j : ℕ) (refs : List ℕ)
+    (nodes payload : ℕ) : Type 0 where
   pub nodes_above : ℕ
   pub payload_above : ℕ
   pub above : begins nodes_above payload_above
   pub new : ¬ Contains before j
   pub values : Items
-  pub comes : Comes f j i values
+  pub comes : Comes f j refs values
   pub deep : length before + 1 + depth_of_items values ≤ MAX_DEPTH
   pub nodes_sum : nodes ≡ nodes_above + 1 + nodes_of_items values
   pub payload_sum : payload ≡ payload_above + payload_of_items values
@@ -51,7 +51,8 @@ pub record BeginsIn (f before : List ℕ) (begins : ℕ → ℕ → Type 0)
 -- come before it
 abbrev pub Begins : List ℕ → List ℕ → ℕ → ℕ → ℕ → Type 0
 Begins f [] i nodes payload = (i ≡ (trailer_of f).top) × (nodes ≡ 0) × (payload ≡ 0)
-Begins f (j ∷ before) i nodes payload = BeginsIn f before (Begins f before j) j i nodes payload
+Begins f (j ∷ before) i nodes payload =
+    BeginsIn f before (Begins f before j) j (i ∷ []) nodes payload
 
 -- what comes before i is what was taken from the limits
 pub record IsBegun (f before : List ℕ) (i : ℕ) (left : Budget) : Type 0 where
@@ -60,31 +61,9 @@ pub record IsBegun (f before : List ℕ) (i : ℕ) (left : Budget) : Type 0 wher
   pub begins : Begins f before i nodes payload
   pub spent : Spends limits nodes payload left
 
--- what comes before the container j, and j itself, is what was taken from the limits; j is
--- not on its own path nor too deep
-pub record IsEntered (f before : List ℕ) (j : ℕ) (left : Budget) : Type 0 where
-  pub nodes : ℕ
-  pub payload : ℕ
-  pub begins : Begins f before j nodes payload
-  pub new : ¬ Contains before j
-  pub shallow : length before < MAX_DEPTH
-  pub spent : Spends limits (1 + nodes) payload left
-
--- what comes before these references, which the container j contains one after the other, is what
--- was taken from the limits
+-- what comes before these references of the container j is what was taken from the limits
 pub record AreNext (f before : List ℕ) (j : ℕ) (refs : List ℕ) (left : Budget) : Type 0 where
   pub nodes : ℕ
   pub payload : ℕ
-  pub begins : Begins f before j nodes payload
-  pub new : ¬ Contains before j
-  pub held : Content
-  pub holds : Holds f j held
-  pub front : List ℕ
-  pub behind : List ℕ
-  pub all : references_of held ≡ front ++ (refs ++ behind)
-  pub values : Items
-  pub spell : SpellItems f front values
-  pub valid : AreItems values
-  pub deep : length before + 1 + depth_of_items values ≤ MAX_DEPTH
-  pub spent : Spends limits (nodes + 1 + nodes_of_items values)
-      (payload + payload_of_items values) left
+  pub begins : BeginsIn f before (Begins f before j) j refs nodes payload
+  pub spent : Spends limits nodes payload left

@@ -12,6 +12,5 @@ pub mod Readings
 pub mod States
 pub mod Passing
 pub mod Recalls
-pub mod Walkers
 pub mod Progress
 pub mod Building

@@ -5,7 +5,7 @@ use Rattle.plist_object.specs.Layout.{trailer_of, IsLaid}
 use Rattle.plist_object.specs.Objects.{Content, holds_table}
 use Rattle.plist_object.specs.Places.{Holds}
 use Rattle.plist_object.specs.References.{references_of}
-use Rattle.plist_binary.specs.declared.path.Path.{Path, Above, In'}
+use Rattle.plist_binary.specs.declared.walker.Path.{Path, Above, In'}
 
 -- object j refers to i
 pub record Refers (f : List ℕ) (j i : ℕ) : Type 0 where
@@ -35,8 +35,9 @@ pub record HasKeys (f : List ℕ) (j : ℕ) (keys : List ℕ) : Type 0 where
   pub values : List ℕ
   pub holds : Holds f j (holds_table keys values)
 
--- object j is a dictionary, and i is one of its references to keys
+-- object j ends a path and is a dictionary, and i is one of its references to keys
 pub record IsKeyOf (f : List ℕ) (j i : ℕ) : Type 0 where
+  pub ends : EndsPath f j
   pub keys : List ℕ
   pub table : HasKeys f j keys
   pub among : Contains keys i

@@ -1,6 +1,8 @@
 -- What a file encodes within a budget, and what it cannot encode.
 use Rattle.std.specs.Prelude.{ℕ, ◌*◌, ◌≤◌, List, [], ◌∷◌, length}
-use Rattle.std.specs.List.{zip}
+use Rattle.std.specs.Ordering.{eq_by_cmp, nat_cmp}
+use Rattle.std.specs.Cmp.Lexicographic.{slice_cmp}
+use Rattle.std.specs.List.{IsDistinct, zip}
 use Rattle.std.specs.List.Sorted.{IsPermutation}
 use Rattle.plist_value.specs.Plist.{text, Plist, scalar, Items, no_items, item, Pairs, IsPlist}
 use Rattle.plist_value.specs.Plist.{AreItems, ArePairs}
@@ -61,12 +63,13 @@ pub record RefusesKey (f : List ℕ) (i levels : ℕ) (left : Budget)
   pub none : UnlessMemory fault ((units : List ℕ) → IsPlist (scalar (text units))
       → Spells f i (scalar (text units)) → 1 ≤ levels → Affords left 1 (2 * length units) → ⊥)
 
--- the fault is true, and the references do not point to strings within the budget
+-- the fault is true, and the references do not point to distinct strings within the budget
 pub record RefusesKeys (f refs : List ℕ) (levels : ℕ) (left : Budget)
     (fault : BinaryFault) : Type 0 where
   pub stands : Stands f fault
   pub none : UnlessMemory fault ((keys : List (List ℕ)) → AreItems (texts keys)
-      → SpellItems f refs (texts keys) → depth_of_items (texts keys) ≤ levels
+      → SpellItems f refs (texts keys) → IsDistinct (eq_by_cmp (slice_cmp nat_cmp)) keys
+      → depth_of_items (texts keys) ≤ levels
       → Affords left (nodes_of_items (texts keys)) (payload_of_items (texts keys)) → ⊥)
 
 -- the references to keys and to values give the pairs, which are in the order of the keys

@@ -6,13 +6,10 @@ use Rattle.std.specs.List.Sorted.{IsPermutation, IsStrictlySortedBy}
 use Rattle.plist_value.specs.Plist.{AreItems}
 use Rattle.plist_value.specs.Limits.{payload_of_items}
 use Rattle.plist_value.specs.declared.budget.Budget.{Budget}
-use Rattle.plist_object.specs.Objects.{holds_table}
-use Rattle.plist_object.specs.Places.{Holds}
 use Rattle.plist_object.specs.Spelled.{SpellItems}
 use Rattle.plist_object.specs.Views.{numbers_of}
-use Rattle.plist_binary.specs.declared.fault.BinaryFault.{BinaryFault}
 use Rattle.plist_binary.specs.declared.last_keys.LastKeys.{LastKeys}
-use Rattle.plist_binary.specs.Readings.{ReadsItems, RefusesPairs, texts}
+use Rattle.plist_binary.specs.Readings.{ReadsItems, texts}
 
 -- strings no two of which are equal: once sorted, each is below the next
 pub record AreApart (keys : List (List ℕ)) : Type 0 where
@@ -38,10 +35,3 @@ pub record ReadsApart (f refs : List ℕ) (levels : ℕ) (before after : Budget)
   pub keys : List (List ℕ)
   pub reads : ReadsItems f refs levels before (texts keys) after
   pub apart : AreApart keys
-
--- With these references to keys the dictionary encodes no pairs, whatever its values are, and the
--- fault is true.
-pub record RefusesTable (f : List ℕ) (table : ℕ) (refs : List ℕ) (levels : ℕ) (left : Budget)
-    (fault : BinaryFault) : Type 0 where
-  pub each : (values : List ℕ) → Holds f table (holds_table refs values)
-      → RefusesPairs f refs values levels left fault

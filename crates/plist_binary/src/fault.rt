@@ -112,14 +112,14 @@ impl BinaryFault {
         ensures { result ≡ of_object object fault }
     {
         match fault {
-            ObjectFault::BadOffset => BinaryFault::BadOffset { object },
-            ObjectFault::CutObject => BinaryFault::CutObject { object },
-            ObjectFault::BadMarker => BinaryFault::BadMarker { object },
-            ObjectFault::NullObject => BinaryFault::NullObject { object },
-            ObjectFault::UidObject => BinaryFault::UidObject { object },
-            ObjectFault::SetObject => BinaryFault::SetObject { object },
-            ObjectFault::NotAscii => BinaryFault::NotAscii { object },
-            ObjectFault::WideInteger => BinaryFault::WideInteger { object },
+            ObjectFault::BadOffset => Self::BadOffset { object },
+            ObjectFault::CutObject => Self::CutObject { object },
+            ObjectFault::BadMarker => Self::BadMarker { object },
+            ObjectFault::NullObject => Self::NullObject { object },
+            ObjectFault::UidObject => Self::UidObject { object },
+            ObjectFault::SetObject => Self::SetObject { object },
+            ObjectFault::NotAscii => Self::NotAscii { object },
+            ObjectFault::WideInteger => Self::WideInteger { object },
         }
     }
 
@@ -128,39 +128,28 @@ impl BinaryFault {
         ensures { result ≡ fault_report self.now }
     {
         match *self {
-            BinaryFault::TooShort => Report(Refusal::TooShort, Place::Nowhere),
-            BinaryFault::BadHeader => Report(Refusal::BadHeader, Place::Nowhere),
-            BinaryFault::BadTrailer => Report(Refusal::BadTrailer, Place::Nowhere),
-            BinaryFault::BadOffset { object } => Report(Refusal::BadOffset, Place::Object(object)),
-            BinaryFault::BadReference { object } => {
-                Report(Refusal::BadReference, Place::Object(object))
-            }
-            BinaryFault::CutObject { object } => Report(Refusal::CutObject, Place::Object(object)),
-            BinaryFault::BadMarker { object } => Report(Refusal::BadMarker, Place::Object(object)),
-            BinaryFault::NullObject { object } => {
-                Report(Refusal::NullObject, Place::Object(object))
-            }
-            BinaryFault::UidObject { object } => Report(Refusal::UidObject, Place::Object(object)),
-            BinaryFault::SetObject { object } => Report(Refusal::SetObject, Place::Object(object)),
-            BinaryFault::NotAscii { object } => Report(Refusal::NotAscii, Place::Object(object)),
-            BinaryFault::WideInteger { object } => {
-                Report(Refusal::WideInteger, Place::Object(object))
-            }
-            BinaryFault::KeyNotText { object } => {
-                Report(Refusal::KeyNotText, Place::Object(object))
-            }
-            BinaryFault::DuplicateKey { object } => {
-                Report(Refusal::DuplicateKey, Place::Object(object))
-            }
-            BinaryFault::Cycle { object } => Report(Refusal::Cycle, Place::Object(object)),
-            BinaryFault::TooDeep { object } => Report(Refusal::TooDeep, Place::Object(object)),
-            BinaryFault::TooManyNodes { object } => {
-                Report(Refusal::TooManyNodes, Place::Object(object))
-            }
-            BinaryFault::TooMuchPayload { object } => {
-                Report(Refusal::TooMuchPayload, Place::Object(object))
-            }
-            BinaryFault::OutOfMemory => Report(Refusal::OutOfMemory, Place::Nowhere),
+            Self::TooShort => Report(Refusal::TooShort, Place::Nowhere),
+            Self::BadHeader => Report(Refusal::BadHeader, Place::Nowhere),
+            Self::BadTrailer => Report(Refusal::BadTrailer, Place::Nowhere),
+            Self::BadOffset { object } => Report(Refusal::BadOffset, Place::Object(object)),
+            Self::BadReference { object } => Report(Refusal::BadReference, Place::Object(object)),
+            Self::CutObject { object } => Report(Refusal::CutObject, Place::Object(object)),
+            Self::BadMarker { object } => Report(Refusal::BadMarker, Place::Object(object)),
+            Self::NullObject { object } => Report(Refusal::NullObject, Place::Object(object)),
+            Self::UidObject { object } => Report(Refusal::UidObject, Place::Object(object)),
+            Self::SetObject { object } => Report(Refusal::SetObject, Place::Object(object)),
+            Self::NotAscii { object } => Report(Refusal::NotAscii, Place::Object(object)),
+            Self::WideInteger { object } => Report(Refusal::WideInteger, Place::Object(object)),
+            Self::KeyNotText { object } => Report(Refusal::KeyNotText, Place::Object(object)),
+            Self::DuplicateKey { object } => Report(Refusal::DuplicateKey, Place::Object(object)),
+            Self::Cycle { object } => Report(Refusal::Cycle, Place::Object(object)),
+            Self::TooDeep { object } => Report(Refusal::TooDeep, Place::Object(object)),
+            Self::TooManyNodes { object } => Report(Refusal::TooManyNodes, Place::Object(object)),
+            Self::TooMuchPayload { object } => Report(
+                Refusal::TooMuchPayload,
+                Place::Object(object),
+            ),
+            Self::OutOfMemory => Report(Refusal::OutOfMemory, Place::Nowhere),
         }
     }
 }

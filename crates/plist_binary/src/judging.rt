@@ -9,8 +9,7 @@ ghost use Rattle.plist_object.specs.Views.{octets_of};
 ghost use Rattle.plist_binary.specs.Faults.{Stands};
 
 use crate::BinaryFault;
-use crate::visiting::Visitor;
-use crate::walking::Walker;
+use crate::walker::Walker;
 use plist_keys::JudgedFile;
 use plist_object::BinFile;
 use std::alloc::Global;
@@ -62,8 +61,7 @@ pub fn judge_file(alloc: Global, octets: &[u8]) -> Result<JudgedFile<'_>, Binary
     ensures stands { IfErr result (Stands octets.entry.now) }
 {
     let file = BinFile::of(octets)?;
-    let visitor = Visitor { file };
-    let known = Walker { alloc, visitor }.top()?;
+    let known = Walker { alloc, file }.top()?;
     Ok(JudgedFile {
         file,
         order: known.order.renewed(&file),

@@ -7,11 +7,11 @@ mod dictionary;
 pub mod fault;
 mod judging;
 mod last_keys;
-mod path;
 mod progress;
 mod reader;
 mod states;
 mod visiting;
+mod walker;
 mod walking;
 
 pub use fault::BinaryFault;

@@ -1,6 +1,5 @@
 //! The progress of a walk.
 ghost use Rattle.std.specs.Prelude.{◌≡◌, ℕ, true, List, [], IfSome};
-ghost use Rattle.plist_binary.specs.States.{AreStates};
 ghost use Rattle.plist_binary.specs.Budgets.{limits};
 ghost use Rattle.plist_binary.specs.Passing.{Passes};
 ghost use Rattle.plist_binary.specs.Readings.{ReadsKey};
@@ -58,7 +57,7 @@ impl<'a> Progress<'a> {
     // Returns the budget left after an object that was a key before, or `None` if it was none or
     // does not fit.
     pub(crate) fn recall_key(&self, object: u64, levels: u64) -> Option<Budget>
-        ensures { IfSome result (λ rest. (f path : List ℕ) → AreStates f path self.now.states.items
+        ensures { IfSome result (λ rest. (f path : List ℕ) → IsProgress f path self.now
             → ReadsKey f object levels self.now.left rest) }
     {
         let ObjectState::Key { payload } = state_at(&self.states, object) else {

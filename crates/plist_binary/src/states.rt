@@ -1,8 +1,8 @@
 //! What is known of the objects of a file while it is validated.
-ghost use Rattle.std.specs.Prelude.{◌≡◌, ◌+◌, ◌<◌, ◌≤◌, ℕ, List, IfSome, OnSome, OnOk};
+ghost use Rattle.std.specs.Prelude.{◌≡◌, ◌+◌, ◌<◌, ◌≤◌, ℕ, Bool, List, IfSome, OnOk};
 ghost use Rattle.plist_value.specs.declared.TheConstants.{MAX_NODES, MAX_DEPTH, MAX_PAYLOAD};
 ghost use Rattle.plist_value.specs.Budget.{Spends};
-ghost use Rattle.plist_binary.specs.States.{IsRecorded, IsValueSize, IsState, IsVisited, state_at_object};
+ghost use Rattle.plist_binary.specs.States.{IsRecorded, IsValueSize, IsState, state_at_object};
 ghost use Rattle.plist_binary.specs.declared.states.ObjectState.TheVariants.{Key, Passed};
 
 use plist_value::Budget;
@@ -39,9 +39,8 @@ pub(crate) enum ObjectState {
 impl ObjectState {
     // Returns what the value of the object takes of the limits, if it was visited.
     pub(crate) fn size(self) -> Option<ValueSize>
-        ensures size { IfSome result (λ size. (f path : List ℕ) (i : ℕ) → IsState f path i self
-            → IsValueSize f i size) }
-        ensures visited { OnSome result (IsVisited self) }
+        ensures { IfSome result (λ size. (f path : List ℕ) (all : Bool) (i : ℕ)
+            → IsState f path all i self → IsValueSize f all i size) }
     {
         match self {
             ObjectState::Unseen => None,

@@ -1,85 +1,66 @@
 //! What the walk does at one object: a node of the value, or a key.
-ghost use Rattle.std.specs.Prelude.{◌≡◌, ◌+◌, ◌<◌, ◌≤◌, ◌∷◌, length, IfOk, IfErr, OnOk, IfSome};
-ghost use Rattle.std.specs.Prelude.{IfNone};
+ghost use Rattle.std.specs.Prelude.{◌≡◌, ◌<◌, ◌≤◌, IfOk, IfErr, OnOk, IfSome, IfNone};
 ghost use Rattle.std.specs.List.{Contains};
 ghost use Rattle.plist_value.specs.Plist.{text};
-ghost use Rattle.plist_value.specs.declared.TheConstants.{MAX_DEPTH};
 ghost use Rattle.plist_value.specs.Budget.{Spends};
 ghost use Rattle.plist_value.specs.Limits.{payload_of_scalar};
 ghost use Rattle.plist_value.specs.Scalars.{content_of};
 ghost use Rattle.plist_value.specs.Texts.{units_of};
-ghost use Rattle.plist_object.specs.Layout.{IsLaid, trailer_of};
+ghost use Rattle.plist_object.specs.Layout.{trailer_of};
 ghost use Rattle.plist_object.specs.Objects.{IsContent, holds_scalar};
-ghost use Rattle.plist_object.specs.Places.{what_holds};
-ghost use Rattle.plist_object.specs.Views.{octets_of, held_of};
-ghost use Rattle.plist_binary.specs.Begins.{IsBegun};
+ghost use Rattle.plist_object.specs.Places.{Holds};
+ghost use Rattle.plist_object.specs.Views.{held_of};
 ghost use Rattle.plist_binary.specs.Faults.{IsText};
-ghost use Rattle.plist_binary.specs.States.{AreStates};
-ghost use Rattle.plist_binary.specs.Progress.{IsProgress};
-ghost use Rattle.plist_binary.specs.Paths.{containers_of, IsKeyOf};
-ghost use Rattle.plist_binary.specs.Readings.{Refuses, ReadsKey, RefusesKey};
+ghost use Rattle.plist_binary.specs.Progress.{walked, above, IsDue, IsTaken, RefusesNode};
+ghost use Rattle.plist_binary.specs.Paths.{IsKeyOf};
+ghost use Rattle.plist_binary.specs.Progress.{IsProgressFrom};
+ghost use Rattle.plist_binary.specs.Readings.{ReadsKey, RefusesKey};
 
 use crate::BinaryFault;
-use crate::path::Path;
 use crate::progress::Progress;
 use crate::states::{ObjectState, ValueSize, mark, state_at};
-use plist_object::{BinFile, Object};
+use crate::walker::{Node, Path, Walker};
+use plist_object::Object;
 use plist_value::{Budget, ScalarRef, TextRef};
 
-// Visits the objects of a file, each as a node of the value, and perhaps as a key.
-#[derive(Clone, Copy)]
-pub(crate) struct Visitor<'a> {
-    pub(crate) file: BinFile<'a>,
-    ghost laid: { IsLaid (octets_of file) },
-}
-
-impl<'a> Visitor<'a> {
+impl<'a> Walker<'a> {
     // Visits a key of the dictionary. A string that was a key before is not decoded again.
-    pub(crate) fn key(
+    pub(crate) fn string_key(
         &self,
         progress: &mut Progress<'a>,
         table: u64,
-        before: &Path,
-        object: u64,
-        levels: u64,
+        key: &Node,
     ) -> Result<(), BinaryFault>
-        requires listed { object < (trailer_of (octets_of self.now.file)).count }
-        requires begun { IsBegun (octets_of self.now.file) (table ∷ containers_of before.now) object
-            progress.old.left }
-        requires key { IsKeyOf (octets_of self.now.file) table object }
-        requires depth { length (containers_of before.now) + 1 + levels ≡ MAX_DEPTH }
-        requires progress { IsProgress (octets_of self.now.file)
-            (table ∷ containers_of before.now) progress.old }
-        ensures read { OnOk result (ReadsKey (octets_of self.now.file) object levels
+        requires due { IsDue (walked self.now) key.now progress.old }
+        requires key { IsKeyOf (walked self.now) table key.now.object }
+        ensures read { OnOk result (ReadsKey (walked self.now) key.now.object key.now.levels
             progress.old.left progress.new.left) }
-        ensures refused { IfErr result (RefusesKey (octets_of self.now.file) object
-            levels progress.old.left) }
-        ensures progress { OnOk result (IsProgress (octets_of self.now.file)
-            (table ∷ containers_of before.now) progress.new) }
-        ensures writable { OnOk result (progress.new.writable ≡ progress.old.writable) }
+        ensures refused { IfErr result (RefusesKey (walked self.now) key.now.object key.now.levels
+            progress.old.left) }
+        ensures progress { OnOk result (IsProgressFrom (walked self.now) (above key.now)
+            progress.old progress.new) }
     {
-        if let Some(rest) = progress.recall_key(object, levels) {
+        if let Some(rest) = progress.recall_key(key.object, key.levels) {
             progress.left = rest;
             return Ok(());
         }
-        let path = Path::In(table, &*before);
         let start = progress.left;
-        let Some(key) = text_in(self.enter(progress, &path, object, levels)?) else {
+        let Some(text) = text_in(self.enter(progress, key)?) else {
             return Err(BinaryFault::KeyNotText { object: table });
         };
-        take_payload(&mut progress.left, object, ScalarRef::Text(key))?;
+        take_payload(&mut progress.left, key.object, ScalarRef::Text(text))?;
         let size = ValueSize::of(start, progress.left, 1);
-        mark(&mut progress.states, self.file.count(), object, size.key())?;
+        let count = self.file.count();
+        mark(&mut progress.states, count, key.object, size.key())?;
         Ok(())
     }
 
     // Returns the reference, or fails if it is not one to an object.
     pub(crate) fn referred(&self, container: u64, reference: u64) -> Result<u64, BinaryFault>
         ensures same { IfOk result (λ object. object ≡ reference) }
-        ensures below { IfOk result (λ object. object < (trailer_of
-            (octets_of self.now.file)).count) }
+        ensures below { IfOk result (λ object. object < (trailer_of (walked self.now)).count) }
         ensures above { IfErr result (λ fault. (fault ≡ BinaryFault.BadReference container) ×
-            ((trailer_of (octets_of self.now.file)).count ≤ reference)) }
+            ((trailer_of (walked self.now)).count ≤ reference)) }
     {
         if reference < self.file.count() {
             Ok(reference)
@@ -88,35 +69,27 @@ impl<'a> Visitor<'a> {
         }
     }
 
-    // Visits the object at the end of the path as a node of the value, and returns its content.
+    // Visits the node, and returns the content of its object.
     pub(crate) fn enter(
         &self,
         progress: &mut Progress<'a>,
-        path: &Path,
-        object: u64,
-        levels: u64,
+        node: &Node,
     ) -> Result<Object<'a>, BinaryFault>
-        requires listed { object < (trailer_of (octets_of self.now.file)).count }
-        requires begun { IsBegun (octets_of self.now.file) (containers_of path.now) object
-            progress.old.left }
-        requires depth { length (containers_of path.now) + levels ≡ MAX_DEPTH }
-        requires progress { IsProgress (octets_of self.now.file) (containers_of path.now)
-            progress.old }
-        ensures held { IfOk result (λ held. what_holds (octets_of self.now.file) object ≡ Ok
+        requires { IsDue (walked self.now) node.now progress.old }
+        ensures held { IfOk result (λ held. Holds (walked self.now) node.now.object
             (held_of held)) }
         ensures valid { IfOk result (λ held. IsContent (held_of held)) }
-        ensures new { OnOk result (¬ Contains (containers_of path.now) object) }
-        ensures deep { OnOk result (1 ≤ levels) }
-        ensures spent { OnOk result (Spends progress.old.left 1 0 progress.new.left) }
-        ensures refused { IfErr result (Refuses (octets_of self.now.file) object
-            levels progress.old.left) }
-        ensures progress { OnOk result (IsProgress (octets_of self.now.file)
-            (containers_of path.now) progress.new) }
-        ensures writable { OnOk result (progress.new.writable ≡ progress.old.writable) }
+        ensures taken { OnOk result (IsTaken (walked self.now) node.now progress.old
+            progress.new) }
+        ensures refused { IfErr result (RefusesNode (walked self.now) node.now progress.old) }
     {
-        self.refuse_cycle(progress, path, object, levels)?;
-        take_node(&mut progress.left, object)?;
-        if levels == 0 {
+        self.refuse_cycle(progress, node)?;
+        let object = node.object;
+        let Some(rest) = progress.left.take_node() else {
+            return Err(BinaryFault::TooManyNodes { object });
+        };
+        progress.left = rest;
+        if node.levels == 0 {
             return Err(BinaryFault::TooDeep { object });
         }
         match self.file.object(object) {
@@ -127,44 +100,21 @@ impl<'a> Visitor<'a> {
 
     // Fails if the object is a container on its own path.
     #[inline(always)]
-    fn refuse_cycle(
-        &self,
-        progress: &Progress<'a>,
-        path: &Path,
-        object: u64,
-        levels: u64,
-    ) -> Result<(), BinaryFault>
-        requires begun { IsBegun (octets_of self.now.file) (containers_of path.now) object
-            progress.now.left }
-        requires states { AreStates (octets_of self.now.file) (containers_of path.now)
-            progress.now.states.items }
-        ensures new { OnOk result (¬ Contains (containers_of path.now) object) }
-        ensures refused { IfErr result (Refuses (octets_of self.now.file) object
-            levels progress.now.left) }
+    fn refuse_cycle(&self, progress: &Progress<'a>, node: &Node) -> Result<(), BinaryFault>
+        requires { IsDue (walked self.now) node.now progress.now }
+        ensures new { OnOk result (¬ Contains (above node.now) node.now.object) }
+        ensures refused { IfErr result (RefusesNode (walked self.now) node.now progress.now) }
     {
-        match state_at(&progress.states, object) {
+        match state_at(&progress.states, node.object) {
             ObjectState::Unseen => Ok(()),
             ObjectState::Passed { .. } => Ok(()),
             ObjectState::Key { .. } => Ok(()),
-            ObjectState::Open => match path {
+            ObjectState::Open => match node.path {
                 Path::Above => Ok(()),
                 Path::In(container, _) => Err(BinaryFault::Cycle { object: *container }),
             },
         }
     }
-}
-
-// Takes one node from the budget.
-fn take_node(left: &mut Budget, object: u64) -> Result<(), BinaryFault>
-    ensures ok { OnOk result (Spends left.old 1 0 left.new) }
-    ensures over { IfErr result (λ fault. (fault ≡ BinaryFault.TooManyNodes object) ×
-        (left.old.nodes ≡ 0)) }
-{
-    let Some(rest) = left.take_node() else {
-        return Err(BinaryFault::TooManyNodes { object });
-    };
-    *left = rest;
-    Ok(())
 }
 
 // Takes the payload of the scalar from the budget.

@@ -1,41 +1,29 @@
 //! The traversal of the objects of a file.
-ghost use Rattle.std.specs.Prelude.{◌≡◌, ◌+◌, ◌<◌, ◌&&◌, ◌∷◌, ℕ, List, length, max};
-ghost use Rattle.std.specs.Prelude.{IfOk, IfErr, OnOk};
-ghost use Rattle.std.specs.List.{Contains};
+ghost use Rattle.std.specs.Prelude.{◌≡◌, ◌-◌, ◌&&◌, ℕ, List, max, IfOk, IfErr, OnOk};
 ghost use Rattle.plist_value.specs.Scalars.{content_of};
 ghost use Rattle.plist_value.specs.Writable.{is_writable_scalar};
 ghost use Rattle.plist_keys.specs.KeyOrder.{IsReady};
 ghost use Rattle.plist_object.specs.Layout.{trailer_of};
 ghost use Rattle.plist_object.specs.Views.{numbers_of};
-ghost use Rattle.plist_binary.specs.Begins.{AreNext, IsBegun, IsEntered};
-ghost use Rattle.plist_binary.specs.Progress.{IsProgress, IsProgressBut};
 ghost use Rattle.plist_binary.specs.Budgets.{limits};
-ghost use Rattle.plist_binary.specs.Passing.{Passes, PassesItems, PassesTop};
-ghost use Rattle.plist_binary.specs.Paths.{containers_of, HasKeys};
-ghost use Rattle.plist_binary.specs.Readings.{Refuses, RefusesItems};
-ghost use Rattle.plist_binary.specs.Readings.{ReadsItems, texts, RefusesKeys};
-ghost use Rattle.plist_binary.specs.Recalls.{ReadsApart, RefusesTable};
+ghost use Rattle.plist_binary.specs.Progress.{walked, above, inside, AreDue, IsDue, PassesNode};
+ghost use Rattle.plist_binary.specs.Progress.{PassesBelow, ReadsDistinct, RefusesDistinct};
+ghost use Rattle.plist_binary.specs.Progress.{RefusesBelow, RefusesNode};
+ghost use Rattle.plist_binary.specs.Passing.{PassesTop};
+ghost use Rattle.plist_binary.specs.Paths.{HasKeys};
+ghost use Rattle.plist_binary.specs.Progress.{IsProgress, IsProgressBut, IsProgressFrom};
+ghost use Rattle.plist_binary.specs.Readings.{ReadsItems, Refuses, texts};
 
 use crate::BinaryFault;
 use crate::last_keys::{LastKeys, recall_keys};
-use crate::path::Path;
 use crate::progress::Progress;
 use crate::states::{ObjectState, ValueSize, mark};
-use crate::visiting::{Visitor, take_payload};
+use crate::visiting::take_payload;
+use crate::walker::{Node, Path, Walker};
 use plist_object::{Object, Refs};
 use plist_value::{MAX_DEPTH, ScalarRef};
-use std::alloc::Global;
-
-// A depth-first walk over the objects of a file, each of which the visitor decodes.
-#[derive(Clone, Copy)]
-pub(crate) struct Walker<'a> {
-    pub(crate) alloc: Global,
-    pub(crate) visitor: Visitor<'a>,
-}
 
 impl<'a> Walker<'a> {
-    ghost use Rattle.plist_binary.specs.Walkers.{walked};
-
     // Validates the top object within the limits, and returns what is known then.
     pub(crate) fn top(&self) -> Result<Progress<'a>, BinaryFault>
         ensures passed { IfOk result (λ known. PassesTop (walked self.now) known.writable) }
@@ -43,111 +31,78 @@ impl<'a> Walker<'a> {
         ensures refused { IfErr result (Refuses (walked self.now) (trailer_of (walked self.now)).top
             MAX_DEPTH limits) }
     {
-        let mut progress = Progress::none(self.alloc, &self.visitor.file);
-        let top = self.visitor.file.top();
-        self.validate(&mut progress, &Path::Above, top, MAX_DEPTH)?;
+        let mut progress = Progress::none(self.alloc, &self.file);
+        let path = Path::Above;
+        let top = Node {
+            path: &path,
+            object: self.file.top(),
+            levels: MAX_DEPTH,
+        };
+        self.validate(&mut progress, &top)?;
         Ok(progress)
     }
 
-    // Validates the object at the end of the path and returns the depth of its value. `levels` is
-    // the depth allowed.
+    // Validates the node and returns the depth of its value.
     #[cycle(walk)]
     #[inline(always)]
-    fn validate(
-        &self,
-        progress: &mut Progress<'a>,
-        path: &Path,
-        object: u64,
-        levels: u64,
-    ) -> Result<u64, BinaryFault>
-        requires listed { object < (trailer_of (walked self.now)).count }
-        requires begun { IsBegun (walked self.now) (containers_of path.now) object
-            progress.old.left }
-        requires depth { length (containers_of path.now) + levels ≡ MAX_DEPTH }
-        requires progress { IsProgress (walked self.now) (containers_of path.now) progress.old }
-        ensures passed { IfOk result (λ deep. Passes (walked self.now) object levels
-            progress.old.left deep progress.new.left
-            progress.old.writable progress.new.writable) }
-        ensures refused { IfErr result (Refuses (walked self.now) object levels progress.old.left) }
-        ensures progress { OnOk result (IsProgress (walked self.now) (containers_of path.now)
+    fn validate(&self, progress: &mut Progress<'a>, node: &Node) -> Result<u64, BinaryFault>
+        requires { IsDue (walked self.now) node.now progress.old }
+        ensures passed { IfOk result (PassesNode (walked self.now) node.now progress.old
             progress.new) }
+        ensures refused { IfErr result (RefusesNode (walked self.now) node.now progress.old) }
+        ensures progress { OnOk result (IsProgress (walked self.now) (above node.now) progress.new) }
     {
-        if let Some((deep, rest)) = progress.recall(object, levels) {
+        if let Some((deep, rest)) = progress.recall(node.object, node.levels) {
             progress.left = rest;
             return Ok(deep);
         }
-        self.walk(progress, path, object, levels)
+        self.walk(progress, node)
     }
 
-    // Validates an object that the memo does not have, and records its depth and the budget it
-    // takes.
+    // Validates a node that the memo does not have, and records its depth and the budget it takes.
     #[cycle(walk)]
-    fn walk(
-        &self,
-        progress: &mut Progress<'a>,
-        path: &Path,
-        object: u64,
-        levels: u64,
-    ) -> Result<u64, BinaryFault>
-        requires listed { object < (trailer_of (walked self.now)).count }
-        requires begun { IsBegun (walked self.now) (containers_of path.now) object
-            progress.old.left }
-        requires depth { length (containers_of path.now) + levels ≡ MAX_DEPTH }
-        requires progress { IsProgress (walked self.now) (containers_of path.now) progress.old }
-        ensures passed { IfOk result (λ deep. Passes (walked self.now) object levels
-            progress.old.left deep progress.new.left
-            progress.old.writable progress.new.writable) }
-        ensures refused { IfErr result (Refuses (walked self.now) object levels progress.old.left) }
-        ensures progress { OnOk result (IsProgress (walked self.now) (containers_of path.now)
+    fn walk(&self, progress: &mut Progress<'a>, node: &Node) -> Result<u64, BinaryFault>
+        requires { IsDue (walked self.now) node.now progress.old }
+        ensures passed { IfOk result (PassesNode (walked self.now) node.now progress.old
             progress.new) }
+        ensures refused { IfErr result (RefusesNode (walked self.now) node.now progress.old) }
+        ensures progress { OnOk result (IsProgress (walked self.now) (above node.now) progress.new) }
     {
         let before = progress.left;
-        let deep = self.content(progress, path, object, levels)?;
+        let deep = self.content_depth(progress, node)?;
         let size = ValueSize::of(before, progress.left, deep);
-        let count = self.visitor.file.count();
-        mark(&mut progress.states, count, object, size.passed())?;
+        let count = self.file.count();
+        mark(&mut progress.states, count, node.object, size.passed())?;
         Ok(deep)
     }
 
-    // Returns the depth of the object's value. A container is marked as open. In a dictionary all
+    // Returns the depth of the node's value. A container is marked as open. In a dictionary all
     // keys are read before the values.
     #[cycle(walk)]
-    fn content(
-        &self,
-        progress: &mut Progress<'a>,
-        path: &Path,
-        object: u64,
-        levels: u64,
-    ) -> Result<u64, BinaryFault>
-        requires listed { object < (trailer_of (walked self.now)).count }
-        requires begun { IsBegun (walked self.now) (containers_of path.now) object
-            progress.old.left }
-        requires depth { length (containers_of path.now) + levels ≡ MAX_DEPTH }
-        requires progress { IsProgress (walked self.now) (containers_of path.now) progress.old }
-        ensures passed { IfOk result (λ deep. Passes (walked self.now) object levels
-            progress.old.left deep progress.new.left
-            progress.old.writable progress.new.writable) }
-        ensures refused { IfErr result (Refuses (walked self.now) object levels progress.old.left) }
-        ensures new { OnOk result (¬ Contains (containers_of path.now) object) }
-        ensures progress { OnOk result (IsProgressBut (walked self.now) (containers_of path.now)
-            object progress.new) }
+    fn content_depth(&self, progress: &mut Progress<'a>, node: &Node) -> Result<u64, BinaryFault>
+        requires { IsDue (walked self.now) node.now progress.old }
+        ensures passed { IfOk result (PassesNode (walked self.now) node.now progress.old
+            progress.new) }
+        ensures refused { IfErr result (RefusesNode (walked self.now) node.now progress.old) }
+        ensures progress { OnOk result (IsProgressBut (walked self.now) (above node.now)
+            node.now.object progress.new) }
     {
-        let count = self.visitor.file.count();
-        match self.visitor.enter(progress, path, object, levels)? {
+        let count = self.file.count();
+        match self.enter(progress, node)? {
             Object::Scalar(scalar) => {
-                take_payload(&mut progress.left, object, scalar)?;
+                take_payload(&mut progress.left, node.object, scalar)?;
                 progress.writable = are_writable(progress.writable, &scalar);
                 Ok(1)
             }
             Object::List(items) => {
-                mark(&mut progress.states, count, object, ObjectState::Open)?;
-                let deep = self.items(progress, object, path, items, levels - 1)?;
+                mark(&mut progress.states, count, node.object, ObjectState::Open)?;
+                let deep = self.items_depth(progress, node, items)?;
                 Ok(1 + deep)
             }
             Object::Table(keys, values) => {
-                mark(&mut progress.states, count, object, ObjectState::Open)?;
-                self.keys_apart(progress, object, path, keys, levels - 1)?;
-                let deep = self.items(progress, object, path, values, levels - 1)?;
+                mark(&mut progress.states, count, node.object, ObjectState::Open)?;
+                self.distinct_keys(progress, node, keys)?;
+                let deep = self.items_depth(progress, node, values)?;
                 Ok(1 + deep)
             }
         }
@@ -155,32 +110,31 @@ impl<'a> Walker<'a> {
 
     // Validates the items of the open container and returns the depth of the deepest.
     #[cycle(walk)]
-    fn items(
+    fn items_depth(
         &self,
         progress: &mut Progress<'a>,
-        container: u64,
-        before: &Path,
+        container: &Node,
         refs: Refs,
-        levels: u64,
     ) -> Result<u64, BinaryFault>
-        requires next { AreNext (walked self.now) (containers_of before.now) container
-            (numbers_of refs) progress.old.left }
-        requires depth { length (containers_of before.now) + 1 + levels ≡ MAX_DEPTH }
-        requires progress { IsProgress (walked self.now) (container ∷ containers_of before.now)
-            progress.old }
-        ensures passed { IfOk result (λ deep. PassesItems (walked self.now) (numbers_of refs.entry)
-            levels progress.old.left deep progress.new.left
-            progress.old.writable progress.new.writable) }
-        ensures refused { IfErr result (RefusesItems (walked self.now) (numbers_of refs.entry)
-            levels progress.old.left) }
-        ensures progress { OnOk result (IsProgress (walked self.now)
-            (container ∷ containers_of before.now) progress.new) }
+        requires { AreDue (walked self.now) container.now (numbers_of refs) progress.old }
+        ensures passed { IfOk result (PassesBelow (walked self.now) container.now
+            (numbers_of refs.entry) progress.old progress.new) }
+        ensures refused { IfErr result (RefusesBelow (walked self.now) container.now
+            (numbers_of refs.entry) progress.old) }
+        ensures progress { OnOk result (IsProgress (walked self.now) (inside container.now)
+            progress.new) }
     {
-        let path = Path::In(container, &*before);
+        let path = Path::In(container.object, container.path);
+        let levels = container.levels - 1;
         let mut deepest = 0;
         for i in 0..refs.len() {
-            let object = self.visitor.referred(container, refs.get(i))?;
-            let deep = self.validate(&mut *progress, &path, object, levels)?;
+            let object = self.referred(container.object, refs.get(i))?;
+            let item = Node {
+                path: &path,
+                object,
+                levels,
+            };
+            let deep = self.validate(&mut *progress, &item)?;
             deepest = deeper(deepest, deep);
         }
         Ok(deepest)
@@ -188,97 +142,81 @@ impl<'a> Walker<'a> {
 
     // Reads the keys of the dictionary, and fails if two are equal. Keys that are those of the last
     // dictionary are not read again.
-    fn keys_apart(
+    fn distinct_keys(
         &self,
         progress: &mut Progress<'a>,
-        table: u64,
-        before: &Path,
+        table: &Node,
         refs: Refs<'a>,
-        levels: u64,
     ) -> Result<(), BinaryFault>
-        requires entered { IsEntered (walked self.now) (containers_of before.now) table
-            progress.old.left }
-        requires keys { HasKeys (walked self.now) table (numbers_of refs) }
-        requires depth { length (containers_of before.now) + 1 + levels ≡ MAX_DEPTH }
-        requires progress { IsProgress (walked self.now) (table ∷ containers_of before.now)
-            progress.old }
-        ensures read { OnOk result (ReadsApart (walked self.now) (numbers_of refs.entry) levels
-            progress.old.left progress.new.left) }
-        ensures refused { IfErr result (RefusesTable (walked self.now) table (numbers_of refs.entry)
-            levels progress.old.left) }
-        ensures progress { OnOk result (IsProgress (walked self.now)
-            (table ∷ containers_of before.now) progress.new) }
-        ensures writable { OnOk result (progress.new.writable ≡ progress.old.writable) }
+        requires due { AreDue (walked self.now) table.now (numbers_of refs) progress.old }
+        requires keys { HasKeys (walked self.now) table.now.object (numbers_of refs) }
+        ensures read { OnOk result (ReadsDistinct (walked self.now) table.now
+            (numbers_of refs.entry) progress.old progress.new) }
+        ensures refused { IfErr result (RefusesDistinct (walked self.now) table.now
+            (numbers_of refs.entry) progress.old) }
     {
+        let levels = table.levels - 1;
         if let Some(rest) = recall_keys(&progress.last, &refs, levels, progress.left) {
             progress.left = rest;
             return Ok(());
         }
-        self.read_apart(progress, table, before, refs, levels)
+        self.sorted_keys(progress, table, refs)
     }
 
-    // Reads keys that are not those of the last dictionary. This is a function of its own so that
-    // frames of objects without keys reserve no space for it.
+    // Reads and sorts keys that are not those of the last dictionary. This is a function of its own
+    // so that frames of objects without keys reserve no space for it.
     #[inline(never)]
-    fn read_apart(
+    fn sorted_keys(
         &self,
         progress: &mut Progress<'a>,
-        table: u64,
-        before: &Path,
+        table: &Node,
         refs: Refs<'a>,
-        levels: u64,
     ) -> Result<(), BinaryFault>
-        requires entered { IsEntered (walked self.now) (containers_of before.now) table
-            progress.old.left }
-        requires keys { HasKeys (walked self.now) table (numbers_of refs) }
-        requires depth { length (containers_of before.now) + 1 + levels ≡ MAX_DEPTH }
-        requires progress { IsProgress (walked self.now) (table ∷ containers_of before.now)
-            progress.old }
-        ensures read { OnOk result (ReadsApart (walked self.now) (numbers_of refs.entry) levels
-            progress.old.left progress.new.left) }
-        ensures refused { IfErr result (RefusesTable (walked self.now) table (numbers_of refs.entry)
-            levels progress.old.left) }
-        ensures progress { OnOk result (IsProgress (walked self.now)
-            (table ∷ containers_of before.now) progress.new) }
-        ensures writable { OnOk result (progress.new.writable ≡ progress.old.writable) }
+        requires due { AreDue (walked self.now) table.now (numbers_of refs) progress.old }
+        requires keys { HasKeys (walked self.now) table.now.object (numbers_of refs) }
+        ensures read { OnOk result (ReadsDistinct (walked self.now) table.now
+            (numbers_of refs.entry) progress.old progress.new) }
+        ensures refused { IfErr result (RefusesDistinct (walked self.now) table.now
+            (numbers_of refs.entry) progress.old) }
     {
         let whole = progress.left.payload;
-        self.keys(&mut *progress, table, before, refs, levels)?;
+        self.string_keys(&mut *progress, table, refs)?;
         let payload = whole - progress.left.payload;
-        if !progress.order.sort(self.alloc, &self.visitor.file, &refs)? {
-            return Err(BinaryFault::DuplicateKey { object: table });
+        if !progress.order.sort(self.alloc, &self.file, &refs)? {
+            let object = table.object;
+            return Err(BinaryFault::DuplicateKey { object });
         }
         progress.last = Some(LastKeys { refs, payload });
         Ok(())
     }
 
     // Reads the keys of the dictionary, and fails if one is no string.
-    fn keys(
+    fn string_keys(
         &self,
         progress: &mut Progress<'a>,
-        table: u64,
-        before: &Path,
+        table: &Node,
         refs: Refs,
-        levels: u64,
     ) -> Result<(), BinaryFault>
-        requires entered { IsEntered (walked self.now) (containers_of before.now) table
-            progress.old.left }
-        requires keys { HasKeys (walked self.now) table (numbers_of refs) }
-        requires depth { length (containers_of before.now) + 1 + levels ≡ MAX_DEPTH }
-        requires progress { IsProgress (walked self.now) (table ∷ containers_of before.now)
-            progress.old }
+        requires due { AreDue (walked self.now) table.now (numbers_of refs) progress.old }
+        requires keys { HasKeys (walked self.now) table.now.object (numbers_of refs) }
         ensures read { OnOk result ((keys : List (List ℕ)) × ReadsItems (walked self.now)
-            (numbers_of refs.entry) levels progress.old.left (texts keys) progress.new.left) }
-        ensures refused { IfErr result (RefusesKeys (walked self.now) (numbers_of refs.entry) levels
-            progress.old.left) }
-        ensures progress { OnOk result (IsProgress (walked self.now)
-            (table ∷ containers_of before.now) progress.new) }
-        ensures writable { OnOk result (progress.new.writable ≡ progress.old.writable) }
+            (numbers_of refs.entry) (table.now.levels - 1) progress.old.left (texts keys)
+            progress.new.left) }
+        ensures refused { IfErr result (RefusesDistinct (walked self.now) table.now
+            (numbers_of refs.entry) progress.old) }
+        ensures progress { OnOk result (IsProgressFrom (walked self.now) (inside table.now)
+            progress.old progress.new) }
     {
+        let path = Path::In(table.object, table.path);
+        let levels = table.levels - 1;
         for i in 0..refs.len() {
-            let object = self.visitor.referred(table, refs.get(i))?;
-            self.visitor
-                .key(&mut *progress, table, before, object, levels)?;
+            let object = self.referred(table.object, refs.get(i))?;
+            let key = Node {
+                path: &path,
+                object,
+                levels,
+            };
+            self.string_key(&mut *progress, table.object, &key)?;
         }
         Ok(())
     }

@@ -123,7 +123,8 @@ value-pairs-requires t c =
     let values = numbers_of c.in-Table.values in
     let some : 1 ≤ c.args.levels = omega (arith, some_depth c.requires.value, c.requires.deep) in
     let holds : Holds f c.args.object (holds_table keys values) = rw c.in-Table.is at c.held.ensures.held in
-    (search rules, SpellsPairsWithin-table f keys values c.args.object c.args.levels holds c.requires)
+    let long : length keys ≡ length values = rw c.in-Table.is at c.held.ensures.valid in
+    (search rules, SpellsPairsWithin-table f keys values c.args.object c.args.levels long holds c.requires)
 
 pub value-returns-in_ok-pairs-in-Table : goal.value-returns-in_ok-pairs-in-Table
 value-returns-in_ok-pairs-in-Table t c =
