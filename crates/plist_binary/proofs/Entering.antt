@@ -1,19 +1,20 @@
 -- Why a node is refused. An object has fewer nodes than one that leads to it, so a cycle encodes
 -- nothing.
-use Rattle.std.proofs.Common.{◌≡◌, ℕ, ◌+◌, List, [], ◌∷◌, length, get_or, zero, refl, Ok, Err, sym, subst, suc, ◌≤◌, ⊎_elim, inl, inr, arith, ◌-◌, ◌<◌, ◌*◌, ◌/◌, ◌%◌, ◌==◌, drop, Result, Bool, true, false, ◌∙◌}
-use Rattle.std.specs.List.{Contains, zip, list_all}
+use Rattle.std.proofs.Common.{◌≡◌, ℕ, ◌+◌, List, [], ◌∷◌, length, get_or, zero, refl, Ok, Err, sym, subst, suc, ◌≤◌, ⊎_elim, inl, inr, arith, ◌-◌, ◌<◌}
+use Rattle.std.specs.List.{Contains, zip}
 use Rattle.std.proofs.lemmas.List.Elements.{Contains-append_cases}
-use Rattle.plist_value.specs.Plist.{text, Plist, scalar, list, table, Items, no_items, item, Pairs, no_pairs, pair, IsPlist, AreItems, ArePairs}
+use Rattle.plist_value.specs.Plist.{text, Plist, scalar, list, table, Items, no_items, item, Pairs, no_pairs, pair, AreOctets, IsPlist, AreItems, ArePairs}
 use Rattle.plist_value.specs.Limits.{nodes, nodes_of_items, nodes_of_pairs}
 use Rattle.plist_value.proofs.Items.{some_depth}
 use Rattle.plist_object.specs.declared.object.ObjectFault.{ObjectFault}
 use Rattle.plist_object.specs.declared.object.ObjectFault.TheVariants as object
-use Rattle.plist_object.specs.Layout.{IsLaid, trailer_of}
-use Rattle.plist_object.specs.Objects.{Content, holds_scalar, holds_list, holds_table, ◌>>=◌, cut, content, integer_length, whole_in, simple_object, whole_object, real_object, moment_object, data_object, ascii_object, wide_object, list_object, table_object, marked_object, object_in}
-use Rattle.plist_object.specs.Places.{Holds, what_holds, object_at, octets_at}
+use Rattle.plist_object.specs.Layout.{IsLaid}
+use Rattle.plist_object.specs.Objects.{Content, holds_scalar, holds_list, holds_table}
+use Rattle.plist_object.specs.Places.{Holds, what_holds}
 use Rattle.plist_object.specs.References.{references_of}
 use Rattle.plist_object.specs.Spelled.{Spells, SpellItems, SpellPairs}
 use Rattle.plist_object.proofs.Ascending.{Among, Among-contains, Among-permutation, Contains-among}
+use Rattle.plist_object.proofs.HeldRanges.{Holds-held}
 use Rattle.plist_object.proofs.Uniqueness.{same_held, same_value}
 use Rattle.plist_binary.specs.declared.fault.BinaryFault.TheVariants.{Cycle, TooDeep, TooManyNodes}
 use Rattle.plist_binary.specs.declared.progress.Progress.{Progress}
@@ -28,106 +29,6 @@ use Rattle.plist_binary.specs.Progress.{IsDue, RefusesNode, above}
 use Rattle.plist_binary.specs.Readings.{Refuses}
 use Rattle.plist_binary.proofs.Beginning.{IsDue-leads}
 use Rattle.plist_binary.proofs.ItemSteps.{Spells-held}
-use Rattle.std.specs.Prelude.{⊤, nat_lt, if◌then◌else◌}
-use Rattle.plist_object.specs.declared.object.ObjectFault.TheVariants.{NotAscii}
-use Rattle.plist_object.proofs.Listed.{length-numbers}
-
-abbrev IsPaired : Content → Type 0
-IsPaired (holds_scalar s) = ⊤
-IsPaired (holds_list refs) = ⊤
-IsPaired (holds_table keys values) = length keys ≡ length values
-
-abbrev ReadsPaired : Result (Content × List ℕ) ObjectFault → Type 0
-ReadsPaired (Ok r) = IsPaired r.0
-ReadsPaired (Err e) = ⊤
-
-by_test : (b : Bool) (x y : Result (Content × List ℕ) ObjectFault) → ReadsPaired x → ReadsPaired y → ReadsPaired (if b then x else y)
-by_test true x y px py = px
-by_test false x y px py = py
-
-by_steps : {A : Type 0} (m : Result A ObjectFault) (next : A → Result (Content × List ℕ) ObjectFault) → ((a : A) → ReadsPaired (next a)) → ReadsPaired (m >>= next)
-by_steps (Ok a) next paired = paired a
-by_steps (Err e) next paired = tt
-
-simple : (low : ℕ) (octets : List ℕ) → ReadsPaired (simple_object low octets)
-unfolding simple_object
-simple low octets =
-    by_test (low == 0) _ _ tt (by_test (low == 8) _ _ tt (by_test (low == 9) _ _ tt tt))
-
-whole : (low : ℕ) (octets : List ℕ) → ReadsPaired (whole_object low octets)
-unfolding whole_object
-whole low octets =
-    by_steps (integer_length (16 + low)) _ (λ n. by_steps (cut n octets) _ (λ parts. by_steps (whole_in n parts.0) _ (λ z. tt)))
-
-real : (low : ℕ) (octets : List ℕ) → ReadsPaired (real_object low octets)
-unfolding real_object
-real low octets =
-    by_test (low == 2) _ _ (by_steps (cut 4 octets) _ (λ parts. tt)) (by_test (low == 3) _ _ (by_steps (cut 8 octets) _ (λ parts. tt)) tt)
-
-moment : (low : ℕ) (octets : List ℕ) → ReadsPaired (moment_object low octets)
-unfolding moment_object
-moment low octets = by_test (low == 3) _ _ (by_steps (cut 8 octets) _ (λ parts. tt)) tt
-
-data_read : (low : ℕ) (octets : List ℕ) → ReadsPaired (data_object low octets)
-unfolding data_object
-data_read low octets = by_steps (content 1 low octets) _ (λ c. tt)
-
-ascii : (low : ℕ) (octets : List ℕ) → ReadsPaired (ascii_object low octets)
-unfolding ascii_object
-ascii low octets = by_steps (content 1 low octets) _ (λ c. by_test (list_all (λ octet. nat_lt octet 128) c.1) (Ok (holds_scalar (text c.1), c.2)) (Err NotAscii) tt tt)
-
-wide : (low : ℕ) (octets : List ℕ) → ReadsPaired (wide_object low octets)
-unfolding wide_object
-wide low octets = by_steps (content 2 low octets) _ (λ c. tt)
-
-listed : (width low : ℕ) (octets : List ℕ) → ReadsPaired (list_object width low octets)
-unfolding list_object
-listed width low octets = by_steps (content width low octets) _ (λ c. tt)
-
-tabled : (width low : ℕ) (octets : List ℕ) → ReadsPaired (table_object width low octets)
-unfolding table_object
-tabled width low octets =
-    by_steps (content (2 * width) low octets) _ (λ c. length-numbers width c.0 c.1 ∙ sym (length-numbers width c.0 (drop (c.0 * width) c.1)))
-
-marked : (width high low : ℕ) (octets : List ℕ) → ReadsPaired (marked_object width high low octets)
-unfolding marked_object
-marked width high low octets =
-    by_test (high == 0) _ _ (simple low octets)
-    (by_test (high == 1) _ _ (whole low octets)
-    (by_test (high == 2) _ _ (real low octets)
-    (by_test (high == 3) _ _ (moment low octets)
-    (by_test (high == 4) _ _ (data_read low octets)
-    (by_test (high == 5) _ _ (ascii low octets)
-    (by_test (high == 6) _ _ (wide low octets)
-    (by_test (high == 8) _ _ tt
-    (by_test (high == 10) _ _ (listed width low octets)
-    (by_test (high == 12) _ _ tt
-    (by_test (high == 13) _ _ (tabled width low octets) tt))))))))))
-
-begun : (width : ℕ) (octets : List ℕ) → ReadsPaired (object_in width octets)
-begun width [] = tt
-begun width (marker ∷ octets) = marked width (marker / 16) (marker % 16) octets
-
-placed : (f : List ℕ) (i : ℕ) → ReadsPaired (object_at f i)
-unfolding object_at
-placed f i = by_steps (octets_at f i) _ (begun (trailer_of f).reference_width)
-
-abbrev HoldsPaired : Result Content ObjectFault → Type 0
-HoldsPaired (Ok held) = IsPaired held
-HoldsPaired (Err e) = ⊤
-
-without_rest : (read : Result (Content × List ℕ) ObjectFault) → ReadsPaired read → HoldsPaired (read >>= λ r. Ok r.0)
-without_rest (Ok r) paired = paired
-without_rest (Err e) paired = tt
-
-held_paired : (f : List ℕ) (i : ℕ) → HoldsPaired (what_holds f i)
-unfolding what_holds
-held_paired f i = without_rest (object_at f i) (placed f i)
-
-pub length-values : (f : List ℕ) (i : ℕ) (keys values : List ℕ) → Holds f i (holds_table keys values) → length keys ≡ length values
-length-values f i keys values holds = subst HoldsPaired holds.reads (held_paired f i)
-
--- An object has fewer nodes than one that leads to it.
 
 -- the object encodes a value of at most this many nodes
 pub record SpellsBelow (f : List ℕ) (i most : ℕ) : Type 0 where
@@ -194,22 +95,22 @@ in_row (i ∷ keys) (j ∷ values) zero d e long within = inl refl
 in_row (i ∷ keys) (j ∷ values) (suc k) d e long within = inr (in_row keys values k d e (omega arith) (omega arith))
 
 -- an object that refers to i encodes more than i does
-pub descends : (f : List ℕ) (j i : ℕ) (v : Plist) → IsPlist v → Spells f j v → Refers f j i → (most : ℕ) → nodes v ≤ suc most → SpellsBelow f i most
-descends f j i (scalar s) valid spells refers most few =
+pub descends : (f : List ℕ) → AreOctets f → (j i : ℕ) (v : Plist) → IsPlist v → Spells f j v → Refers f j i → (most : ℕ) → nodes v ≤ suc most → SpellsBelow f i most
+descends f octets j i (scalar s) valid spells refers most few =
     let held = same_held f j refers.held (holds_scalar s) refers.holds spells in
     absurd (Among-contains i [] (subst (λ (h : Content). Contains (references_of h) i) held refers.among))
-descends f j i (list vs) valid spells refers most few =
+descends f octets j i (list vs) valid spells refers most few =
     let held = same_held f j refers.held (holds_list spells.0) refers.holds spells.1.0 in
     let among = Among-contains i spells.0 (subst (λ (h : Content). Contains (references_of h) i) held refers.among) in
     wider f i (nodes_of_items vs) most (omega arith) (among_items f i spells.0 vs valid spells.1.1 among)
-descends f j i (table ps) valid spells refers most few =
+descends f octets j i (table ps) valid spells refers most few =
     let keys = spells.0 in
     let values = spells.1.0 in
     let rows = spells.1.1.0 in
     let holds = spells.1.1.1.0 in
     let moved = spells.1.1.1.1.0 in
     let spell = spells.1.1.1.1.1 in
-    let long = length-values f j keys values holds in
+    let long : length keys ≡ length values = Holds-held f j (holds_table keys values) octets holds in
     let held = same_held f j refers.held (holds_table keys values) refers.holds holds in
     let among = subst (λ (h : Content). Contains (references_of h) i) held refers.among in
     let row : ℕ → ℕ × ℕ = λ k. (get_or keys k i, get_or values k i) in
@@ -227,36 +128,36 @@ some_node (scalar s) = omega arith
 some_node _ = omega arith
 
 -- an object on the path to i encodes more than i does
-path_descends : (f containers : List ℕ) (i j : ℕ) (v : Plist) → IsPlist v → Spells f j v → Leads f containers i → Among j containers → (most : ℕ) → nodes v ≤ suc most → SpellsBelow f i most
-path_descends f [] i j v valid spells leads among most few = absurd among
-path_descends f (c ∷ containers) i j v valid spells leads among most few =
+path_descends : (f containers : List ℕ) → AreOctets f → (i j : ℕ) (v : Plist) → IsPlist v → Spells f j v → Leads f containers i → Among j containers → (most : ℕ) → nodes v ≤ suc most → SpellsBelow f i most
+path_descends f [] octets i j v valid spells leads among most few = absurd among
+path_descends f (c ∷ containers) octets i j v valid spells leads among most few =
     ⊎_elim
     (λ (same : j ≡ c).
-    descends f c i v valid (subst (λ (k : ℕ). Spells f k v) same spells) leads.0 most few)
+    descends f octets c i v valid (subst (λ (k : ℕ). Spells f k v) same spells) leads.0 most few)
     (λ (later : Among j containers).
-    let above = path_descends f containers c j v valid spells leads.1 later most few in
-    descends f c i above.value above.valid above.spells leads.0 most (omega (arith, above.few)))
+    let above = path_descends f containers octets c j v valid spells leads.1 later most few in
+    descends f octets c i above.value above.valid above.spells leads.0 most (omega (arith, above.few)))
     among
 
 -- an object on its own path encodes nothing
-cycle_spells_none : (f containers : List ℕ) (i : ℕ) (v : Plist) → Leads f containers i → Among i containers → IsPlist v → Spells f i v → ⊥
-cycle_spells_none f containers i v leads among valid spells =
+cycle_spells_none : (f containers : List ℕ) → AreOctets f → (i : ℕ) (v : Plist) → Leads f containers i → Among i containers → IsPlist v → Spells f i v → ⊥
+cycle_spells_none f containers octets i v leads among valid spells =
     let some = some_node v in
     let few : nodes v ≤ suc (nodes v - 1) = omega arith in
-    let below = path_descends f containers i i v valid spells leads among (nodes v - 1) few in
+    let below = path_descends f containers octets i i v valid spells leads among (nodes v - 1) few in
     let same = same_value f i v below.value valid below.valid spells below.spells in
     let fewer : nodes v ≤ nodes v - 1 = subst (λ (w : Plist). nodes w ≤ nodes v - 1) (sym same) below.few in
     omega arith
 
-pub Refuses-cycle : (f before : List ℕ) (container i levels : ℕ) (left : Budget) → IsLaid f → Leads f (container ∷ before) i → Among i (container ∷ before) → Refuses f i levels left (Cycle container)
-Refuses-cycle f before container i levels left laid leads among = record {
+pub Refuses-cycle : (f before : List ℕ) (container i levels : ℕ) (left : Budget) → IsLaid f → AreOctets f → Leads f (container ∷ before) i → Among i (container ∷ before) → Refuses f i levels left (Cycle container)
+Refuses-cycle f before container i levels left laid octets leads among = record {
   stands = record {
     ends = record { laid = laid; before = before; leads = leads.1 };
     reference = i;
     refers = leads.0;
     on_path = Contains-among i (container ∷ before) among;
   };
-  none = λ _ v valid spells deep affords. cycle_spells_none f (container ∷ before) i v leads among valid spells;
+  none = λ _ v valid spells deep affords. cycle_spells_none f (container ∷ before) octets i v leads among valid spells;
 }
 
 pub Refuses-nodes : {f : List ℕ} {node : Node} {before : Progress} → IsLaid f → IsDue f node before → ¬ Contains (above node) node.object → before.left.nodes ≡ 0 → RefusesNode f node before (TooManyNodes node.object)

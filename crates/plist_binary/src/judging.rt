@@ -61,7 +61,8 @@ pub fn judge_file(alloc: Global, octets: &[u8]) -> Result<JudgedFile<'_>, Binary
     ensures stands { IfErr result (Stands octets.entry.now) }
 {
     let file = BinFile::of(octets)?;
-    let known = Walker { alloc, file }.top()?;
+    let walker = Walker { alloc, file };
+    let known = walker.top()?;
     Ok(JudgedFile {
         file,
         order: known.order.renewed(&file),

@@ -1,4 +1,5 @@
 //! A walk over the objects of a file, and the nodes that it visits.
+ghost use Rattle.plist_value.specs.Plist.{AreOctets};
 ghost use Rattle.plist_object.specs.Layout.{IsLaid};
 ghost use Rattle.plist_object.specs.Views.{octets_of};
 
@@ -10,6 +11,7 @@ use std::alloc::Global;
 pub(crate) struct Walker<'a> {
     pub(crate) alloc: Global,
     pub(crate) file: BinFile<'a>,
+    ghost octets: { AreOctets (octets_of file) },
     ghost laid: { IsLaid (octets_of file) },
 }
 

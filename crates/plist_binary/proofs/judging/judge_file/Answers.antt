@@ -34,6 +34,11 @@ told f writable passed v binary =
     let same = same_value f (trailer_of f).top v passed.passes.value binary.valid reads.valid binary.spells reads.spells in
     ap is_writable same ∙ sym passed.passes.writable
 
+pub invariant_of-walker : goal.invariant_of-walker
+invariant_of-walker c =
+    let octets : AreOctets c.args.octets.now = search rules in
+    record { octets = subst AreOctets (sym c.in_ok-file.ensures.laid) octets; laid = subst IsLaid (sym c.in_ok-file.ensures.laid) c.in_ok-file.ensures.ok }
+
 pub returns-clause-ok : goal.returns-clause-ok
 returns-clause-ok c =
     let f = c.args.octets.now in

@@ -52,12 +52,14 @@ content_depth-items_depth-requires t c =
     let refs = numbers_of c.in-List.items in
     let holds : Holds (walked c.args.self.now) c.args.node.now.object (holds_list refs) = rw c.in-List.is at c.in_ok-scalar.ensures.held in
     let taken = c.in_ok-scalar.ensures.taken in
-    let so_far = taken.so_far.is in
-    (search rules, record {
-      next = AreNext-items refs c.requires taken holds;
-      depth = c.requires.depth;
-      so_far = record { states = AreStates-open c.args.node.now.object c.in_ok-mark-in-List.ensures so_far.states; last = so_far.last; ready = so_far.ready; within = so_far.within };
-    })
+    let so_far = taken.so_far.is in (
+      search rules,
+      record {
+        next = AreNext-items refs c.requires taken holds;
+        depth = c.requires.depth;
+        so_far = record { states = AreStates-open c.args.node.now.object c.in_ok-mark-in-List.ensures so_far.states; last = so_far.last; ready = so_far.ready; within = so_far.within };
+      },
+    )
 
 pub content_depth-returns-in_err-deep-in-List-clause-refused : goal.content_depth-returns-in_err-deep-in-List-clause-refused
 content_depth-returns-in_err-deep-in-List-clause-refused t c =
@@ -103,12 +105,14 @@ content_depth-items_depth-requires-in-Table t c =
     let keys = numbers_of c.in-Table.keys in
     let values = numbers_of c.in-Table.values in
     let holds : Holds (walked c.args.self.now) c.args.node.now.object (holds_table keys values) = rw c.in-Table.is at c.in_ok-scalar.ensures.held in
-    let both = c.in_ok-distinct_keys-in-Table.ensures.read in
-    (search rules, record {
-      next = AreNext-values keys values c.distinct_keys.new.progress.left (texts both.read.keys) c.requires c.in_ok-scalar.ensures.taken holds both.read.reads;
-      depth = c.requires.depth;
-      so_far = both.so_far.is;
-    })
+    let both = c.in_ok-distinct_keys-in-Table.ensures.read in (
+      search rules,
+      record {
+        next = AreNext-values keys values c.distinct_keys.new.progress.left (texts both.read.keys) c.requires c.in_ok-scalar.ensures.taken holds both.read.reads;
+        depth = c.requires.depth;
+        so_far = both.so_far.is;
+      },
+    )
 
 pub content_depth-returns-in_err-deep-in-Table-clause-refused : goal.content_depth-returns-in_err-deep-in-Table-clause-refused
 content_depth-returns-in_err-deep-in-Table-clause-refused t c =
@@ -146,13 +150,15 @@ items_depth-returns-in_err-object-clause-refused t c =
 
 pub items_depth-validate-requires : goal.items_depth-validate-requires
 items_depth-validate-requires t c =
-    let due = c.requires in
-    (search rules, record {
-      listed = c.in_ok-object.ensures.below;
-      begun = IsBegun-next c.loop-i.i c.in_ok-object.object c.loop-i.progress.left (items_of c.loop-i.invariant.passed.values) due (omega arith) (c.in_ok-object.ensures.same ∙ c.get.ensures) c.loop-i.invariant.passed.reads;
-      depth = omega (arith, due.depth, due.next.begins.deep);
-      so_far = c.loop-i.invariant.progress;
-    })
+    let due = c.requires in (
+      search rules,
+      record {
+        listed = c.in_ok-object.ensures.below;
+        begun = IsBegun-next c.loop-i.i c.in_ok-object.object c.loop-i.progress.left (items_of c.loop-i.invariant.passed.values) due (omega arith) (c.in_ok-object.ensures.same ∙ c.get.ensures) c.loop-i.invariant.passed.reads;
+        depth = omega (arith, due.depth, due.next.begins.deep);
+        so_far = c.loop-i.invariant.progress;
+      },
+    )
 
 pub items_depth-returns-in_err-deep-clause-refused : goal.items_depth-returns-in_err-deep-clause-refused
 items_depth-returns-in_err-deep-clause-refused t c =

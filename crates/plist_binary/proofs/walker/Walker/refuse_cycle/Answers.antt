@@ -13,4 +13,4 @@ returns-in-In-clause-refused c =
     let node = c.args.node.now in
     let path : above node ≡ c.in-In.container ∷ containers_of c.in-In.field-1.now = ap containers_of c.in-In.is in
     let among = Open-among node.object c.requires.so_far.states (sym c.state_at.ensures ∙ c.in-Open.is) in
-    Refuses-cycle f (containers_of c.in-In.field-1.now) c.in-In.container node.object node.levels c.args.progress.now.left c.args.self.now.laid (subst (λ (containers : List ℕ). Leads f containers node.object) path (IsDue-leads c.requires)) (subst (Among node.object) path among)
+    Refuses-cycle f (containers_of c.in-In.field-1.now) c.in-In.container node.object node.levels c.args.progress.now.left c.args.self.now.laid c.args.self.now.octets (subst (λ (containers : List ℕ). Leads f containers node.object) path (IsDue-leads c.requires)) (subst (Among node.object) path among)
