@@ -80,19 +80,20 @@ run_stop e t = Quoted.stop (ap begins_run e ∙ t)
 pub run_none : {text : List ℕ} → text ≡ [] → Run text [] text
 run_none e = Quoted.stop (ap begins_run e)
 
-pub escape_octal : (text end : List ℕ) (value : ℕ) → begins_digit 8 text ≡ true → number_from 8 3 0 text ≡ record { value = value; after = end } → value ≤ 0x7f
-    → Escape text (value ∷ []) end
-escape_octal text end value d n low =
-    let limit : (number_from 8 3 0 text).value ≤ 0x7f = rw n low in
-    subst (λ (m : Number). Escape text (m.value ∷ []) m.after) n (Quoted.octal d limit)
+pub piece_octal : {mark value : ℕ} {text digits end : List ℕ} → text ≡ 92 ∷ digits → begins_digit 8 digits ≡ true
+    → number_from 8 3 0 digits ≡ record { value = value; after = end } → value ≤ 0x7f → Piece mark text (value ∷ []) end
+piece_octal {mark} {digits = digits} e d n low =
+    let limit : (number_from 8 3 0 digits).value ≤ 0x7f = rw n low in
+    rw e (subst (λ (m : Number). Piece mark (92 ∷ digits) (m.value ∷ []) m.after) n (Quoted.escape (Quoted.octal d limit)))
 
-pub escape_unit : (text digits end : List ℕ) (value : ℕ) → text ≡ 85 ∷ digits → begins_digit 16 digits ≡ true
-    → number_from 16 4 0 digits ≡ record { value = value; after = end } → Escape text (value ∷ []) end
-escape_unit text digits end value e d n =
-    subst (λ x. Escape x (value ∷ []) end) (sym e) (subst (λ (m : Number). Escape (85 ∷ digits) (m.value ∷ []) m.after) n (Quoted.unit d))
+pub piece_unit : {mark value : ℕ} {text digits end : List ℕ} → text ≡ 92 ∷ 85 ∷ digits → begins_digit 16 digits ≡ true
+    → number_from 16 4 0 digits ≡ record { value = value; after = end } → Piece mark text (value ∷ []) end
+piece_unit {mark} {digits = digits} e d n =
+    rw e (subst (λ (m : Number). Piece mark (92 ∷ 85 ∷ digits) (m.value ∷ []) m.after) n (Quoted.escape (Quoted.unit d)))
 
-pub escape_character : (text rest : List ℕ) (c : ℕ) → text ≡ c ∷ rest → is_digit c 8 ≡ false → (c == 85) ≡ false → Escape text (encode_utf16 (escaped c)) rest
-escape_character text rest c e o u = subst (λ x. Escape x (encode_utf16 (escaped c)) rest) (sym e) (Quoted.character o u)
+pub piece_character : {mark c : ℕ} {text letter rest : List ℕ} → text ≡ 92 ∷ letter → letter ≡ c ∷ rest → is_digit c 8 ≡ false → (c == 85) ≡ false
+    → Piece mark text (encode_utf16 (escaped c)) rest
+piece_character e l o u = rw (e, l) (Quoted.escape (Quoted.character o u))
 
 pub octal_fault : (p : Offsets) (start at value : ℕ) (text rest end : List ℕ) → text ≡ 92 ∷ rest → begins_digit 8 rest ≡ true
     → number_from 8 3 0 rest ≡ record { value = value; after = end } → 0x7f < value → at ≡ offset p text → EscapeFault p start text (OctalRange at)
@@ -100,9 +101,9 @@ octal_fault p start at value text rest end e d n high a =
     let limit : 0x7f < (number_from 8 3 0 rest).value = rw n high in
     rw (a, e) (Stands.too_high d limit)
 
-pub unit_fault : (p : Offsets) (start at : ℕ) (text letter rest : List ℕ) → text ≡ 92 ∷ letter → letter ≡ 85 ∷ rest → begins_digit 16 rest ≡ false
-    → at ≡ offset p text → EscapeFault p start text (BadEscape at)
-unit_fault p start at text letter rest e l d a = rw (a, e, l) (Stands.no_digit d)
+pub unit_fault : {p : Offsets} {start at : ℕ} {text rest : List ℕ} → text ≡ 92 ∷ 85 ∷ rest → begins_digit 16 rest ≡ false → at ≡ offset p text
+    → EscapeFault p start text (BadEscape at)
+unit_fault e d a = rw (a, e) (Stands.no_digit d)
 
 pub cut_fault : (p : Offsets) (start : ℕ) (text rest : List ℕ) → text ≡ 92 ∷ rest → rest ≡ [] → EscapeFault p start text (UnclosedString start)
 cut_fault p start text rest e r = rw (e, r) Stands.cut_escape
@@ -128,10 +129,6 @@ piece_shorter (Quoted.escape e) = let h = escape_shorter e in omega (arith, h)
 pub piece_raw : (mark c : ℕ) (text rest : List ℕ) → text ≡ c ∷ rest → (c == 92) ≡ false → (c == mark) ≡ false → Piece mark text (encode_utf16 c) rest
 piece_raw mark c text rest e b m =
     subst (λ x. Piece mark x (encode_utf16 c) rest) (sym e) (Quoted.raw (rw (b, m) refl))
-
-pub piece_escape : (mark c : ℕ) (text rest units end : List ℕ) → text ≡ c ∷ rest → c ≡ 92 → Escape rest units end → Piece mark text units end
-piece_escape mark c text rest units end e b r =
-    subst (λ x. Piece mark x units end) (sym (e ∙ ap (λ d. d ∷ rest) b)) (Quoted.escape r)
 
 pub quoted_close : (mark c : ℕ) (text rest : List ℕ) → text ≡ c ∷ rest → (c == mark) ≡ true → Quoted mark text [] rest
 quoted_close mark c text rest e m = subst (λ x. Quoted mark x [] rest) (sym e) (Quoted.close m)

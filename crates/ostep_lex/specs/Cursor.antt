@@ -8,7 +8,7 @@ use Rattle.ostep_lex.specs.declared.fault.LexFault.{LexFault}
 use Rattle.ostep_lex.specs.declared.fault.LexFault.TheVariants.{BadUtf8, BadUtf16, OutOfMemory}
 use Rattle.std.specs.Char.{is_digit, digit_value}
 use Rattle.ostep_lex.specs.Lexeme.{Lexeme, IsToken, Located}
-use Rattle.ostep_lex.specs.Quoted.{Escape, Piece, Quoted, Run}
+use Rattle.ostep_lex.specs.Quoted.{Piece, Quoted, Run}
 use Rattle.ostep_lex.specs.Octets.{OctetsPiece, Octets}
 use Rattle.ostep_lex.specs.Gap.{GapPiece, Gap, begins_gap}
 use Rattle.ostep_lex.specs.Source.{characters_in, encoding_in}
@@ -90,13 +90,7 @@ pub record PassesGap (old new : Cursor) : Type 0 where
   pub whole : begins_gap (ahead new) ≡ false
   pub input : SameInput old new
 
--- an escape is between the old and the new cursor, and its units are appended
-pub record EscapeAppends (units more : List ℕ) (old new : Cursor) : Type 0 where
-  pub piece : List ℕ
-  pub escape : Escape (ahead old) piece (ahead new)
-  pub appended : more ≡ units ++ piece
-  pub input : SameInput old new
-
+-- a piece of a quoted string is between the old and the new cursor, and its units are appended
 pub record PieceAppends (mark : ℕ) (units more : List ℕ) (old new : Cursor) : Type 0 where
   pub units_of : List ℕ
   pub piece : Piece mark (ahead old) units_of (ahead new)

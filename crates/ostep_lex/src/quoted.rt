@@ -8,7 +8,7 @@ ghost use Rattle.ostep_lex.specs.Character.{is_quote};
 ghost use Rattle.ostep_lex.specs.Stands.{EscapeFault, QuotedFault};
 ghost use Rattle.ostep_lex.specs.declared.stretch.Class.TheVariants.{Raw};
 ghost use Rattle.ostep_lex.specs.Cursor.{ahead, offsets_in, SameInput, UnlessMemory};
-ghost use Rattle.ostep_lex.specs.Cursor.{EscapeAppends, PieceAppends, StretchAppends};
+ghost use Rattle.ostep_lex.specs.Cursor.{PieceAppends, StretchAppends};
 ghost use Rattle.ostep_lex.specs.Cursor.{PassesQuoted, PassesRun};
 
 use crate::character::is_run;
@@ -80,7 +80,8 @@ fn push_octal<'a>(
     requires backslash { ahead backslash ≡ codes "\\" ++ ahead digits }
     requires digits { begins_digit 8 (ahead digits) ≡ true }
     requires input { SameInput backslash digits }
-    ensures ok { IfOk result (EscapeAppends units.old.items units.new.items digits.entry) }
+    ensures ok { (mark : ℕ)
+        → IfOk result (PieceAppends mark units.old.items units.new.items backslash.entry) }
     ensures err { (start : ℕ) → IfErr result (UnlessMemory
         (EscapeFault (offsets_in backslash.entry) start (ahead backslash.entry))) }
 {
@@ -99,13 +100,12 @@ fn push_octal<'a>(
 fn push_unit<'a>(
     units: &mut Vec<u16>,
     backslash: Cursor<'a>,
-    letter: Cursor<'a>,
     digits: Cursor<'a>,
 ) -> Result<Cursor<'a>, LexFault>
-    requires backslash { ahead backslash ≡ codes "\\" ++ ahead letter }
-    requires letter { ahead letter ≡ codes "U" ++ ahead digits }
-    requires input { (SameInput backslash letter) × SameInput letter digits }
-    ensures ok { IfOk result (EscapeAppends units.old.items units.new.items letter.entry) }
+    requires backslash { ahead backslash ≡ codes "\\U" ++ ahead digits }
+    requires input { SameInput backslash digits }
+    ensures ok { (mark : ℕ)
+        → IfOk result (PieceAppends mark units.old.items units.new.items backslash.entry) }
     ensures err { (start : ℕ) → IfErr result (UnlessMemory
         (EscapeFault (offsets_in backslash.entry) start (ahead backslash.entry))) }
 {
@@ -129,7 +129,8 @@ fn push_escape<'a>(
 ) -> Result<Cursor<'a>, LexFault>
     requires backslash { ahead backslash ≡ codes "\\" ++ ahead cursor }
     requires input { SameInput backslash cursor }
-    ensures ok { IfOk result (EscapeAppends units.old.items units.new.items cursor.entry) }
+    ensures ok { (mark : ℕ)
+        → IfOk result (PieceAppends mark units.old.items units.new.items backslash.entry) }
     ensures err { IfErr result (UnlessMemory
         (EscapeFault (offsets_in backslash.entry) start (ahead backslash.entry))) }
 {
@@ -140,7 +141,7 @@ fn push_escape<'a>(
         return push_octal(units, backslash, cursor);
     }
     if c == 'U' {
-        return push_unit(units, backslash, cursor, after);
+        return push_unit(units, backslash, after);
     }
     push_character(units, escaped_character(c))?;
     Ok(after)
