@@ -1,4 +1,3 @@
-pub mod Fault
 pub mod Encoding
 pub mod Source
 pub mod Character

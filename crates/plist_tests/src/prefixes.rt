@@ -2,6 +2,7 @@
 use crate::depth::{LISTS, nested};
 use crate::files::files;
 use ostep_lex::tokens;
+use ostep_text::TextFault;
 use plist_canon::check;
 use plist_forms::read_any;
 use std::alloc::Global;
