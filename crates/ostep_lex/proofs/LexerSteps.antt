@@ -292,7 +292,7 @@ plain_quoted {mark} {old} {mid} {new} {front} p e i same = record {
   input = i ∙ p.input;
 }
 
-no_comment : (c : ℕ) (rest : List ℕ) → (c == 47) ≡ false → begins_comment (c ∷ rest) ≡ false
+pub no_comment : (c : ℕ) (rest : List ℕ) → (c == 47) ≡ false → begins_comment (c ∷ rest) ≡ false
 no_comment c [] e = refl
 no_comment c (d ∷ rest) e = rw e refl
 

@@ -1,6 +1,7 @@
 -- Stretches of characters of one class, in bytes and in units, and what follows them.
-use Rattle.std.proofs.Common.{ℕ, Bool, true, ◌<◌, ◌-◌, ◌&&◌, List, [], ◌∷◌, ◌++◌, length, take, drop, ◌≡◌, refl, sym, ap, subst, ◌∙◌, arith, append_assoc, length-append, ◌≤◌, append-nil, lt-ltb, false, not, ◌==◌}
+use Rattle.std.proofs.Common.{ℕ, Bool, true, ◌<◌, ◌-◌, ◌&&◌, List, [], ◌∷◌, ◌++◌, length, take, drop, ◌≡◌, refl, sym, ap, subst, ◌∙◌, arith, append_assoc, length-append, ◌≤◌, append-nil, lt-ltb, false, ◌==◌}
 use Rattle.std.specs.Prelude.{IsUtf8, chars, nat_lt}
+use Rattle.std.proofs.lemmas.Bool.{not-true}
 use Rattle.std.proofs.lemmas.Bool.Decides.{nat_tests}
 use Rattle.std.specs.Str.{IsCharBoundary}
 use Rattle.std.proofs.Math.Seq.{take-append_seam, drop-append_seam}
@@ -189,10 +190,6 @@ here kind c cs s = and_right (nat_lt c 0xD800) (belongs kind c) (and_left (nat_l
 rest_of : (kind : Class) (c : ℕ) (cs : List ℕ) → is_stretch 0xD800 kind (c ∷ cs) ≡ true → is_stretch 0xD800 kind cs ≡ true
 rest_of kind c cs s = and_right (nat_lt c 0xD800 && belongs kind c) (is_stretch 0xD800 kind cs) s
 
-not_true : (b : Bool) → not b ≡ true → b ≡ false
-not_true true e = sym e
-not_true false e = refl
-
 pub one_unit : (c : ℕ) → c < 0xD800 → encode_utf16 c ≡ c ∷ []
 one_unit c h = let w : c < 0x1_0000 = omega arith in rw (lt-ltb c 0x1_0000 w) refl
 
@@ -218,7 +215,7 @@ gap_front (c ∷ cs) rest end s r = Gap.piece (Gap.white (here White c cs s)) (g
 
 line_front : (front rest end : List ℕ) → is_stretch 0xD800 Line front ≡ true → LineComment rest end → LineComment (front ++ rest) end
 line_front [] rest end s r = r
-line_front (c ∷ cs) rest end s r = Gap.more (not_true (is_line_end c) (here Line c cs s)) (line_front cs rest end (rest_of Line c cs s) r)
+line_front (c ∷ cs) rest end s r = Gap.more (not-true (is_line_end c) (here Line c cs s)) (line_front cs rest end (rest_of Line c cs s) r)
 
 goes_on : (c : ℕ) (rest : List ℕ) → (c == 42) ≡ false → closes_comment (c ∷ rest) ≡ false
 goes_on c [] e = refl
@@ -227,12 +224,12 @@ goes_on c (d ∷ rest) e = rw e refl
 block_front : (front rest end : List ℕ) → is_stretch 0xD800 Starless front ≡ true → BlockComment rest end → BlockComment (front ++ rest) end
 block_front [] rest end s r = r
 block_front (c ∷ cs) rest end s r =
-    Gap.more (goes_on c (cs ++ rest) (not_true (c == 42) (here Starless c cs s))) (block_front cs rest end (rest_of Starless c cs s) r)
+    Gap.more (goes_on c (cs ++ rest) (not-true (c == 42) (here Starless c cs s))) (block_front cs rest end (rest_of Starless c cs s) r)
 
 never_front : (front rest : List ℕ) → is_stretch 0xD800 Starless front ≡ true → NeverCloses rest → NeverCloses (front ++ rest)
 never_front [] rest s r = r
 never_front (c ∷ cs) rest s r =
-    Gap.more (goes_on c (cs ++ rest) (not_true (c == 42) (here Starless c cs s))) (never_front cs rest (rest_of Starless c cs s) r)
+    Gap.more (goes_on c (cs ++ rest) (not-true (c == 42) (here Starless c cs s))) (never_front cs rest (rest_of Starless c cs s) r)
 
 -- the part of an unquoted string that the cursor skips
 pub run_stretch : {old new : Cursor} {front more end : List ℕ} → PassesStretch Run old front new → RunOf (ahead new) more end → RunOf (ahead old) (front ++ more) end

@@ -8,13 +8,15 @@ use Rattle.std.specs.Cmp.Lexicographic.{pointwise, bytes_decides}
 use Rattle.std.specs.Cmp.{unsigned_ties}
 use Rattle.std.specs.Global.{Global}
 use Rattle.std.specs.Prelude.{Vec}
-use Rattle.std.proofs.lemmas.Bool.{false_from_ne_true}
+use Rattle.std.proofs.lemmas.Bool.{and_parts, false_from_ne_true}
 use Rattle.std.proofs.lemmas.Bool.Decides.{nat_tests, same_from_decides}
+use Rattle.std.proofs.Math.Bool.{or_assoc}
 use Rattle.plist_value.specs.Plist.{AreUnits}
 use Rattle.ostep_text.specs.Key.{is_short_key, packed, number_of, key_cmp}
 use Rattle.ostep_text.specs.KeyOrder.{key_ties}
 use Rattle.ostep_text.specs.Keys.{in_set}
 use Rattle.ostep_text.specs.declared.keys.KeySet.{KeySet}
+use Rattle.ostep_text.proofs.SortingSteps.{or-swap}
 
 -- the base of the number of a key with few units, and of another
 abbrev base : Bool → ℕ
@@ -50,11 +52,6 @@ wide_most xs i h = packed-below true (drop i xs) 7 (rw (length-drop i xs) (omega
 
 pub ruleset few_units = (wide_fits, wide_most)
 
-both : (a b : Bool) → (a && b) ≡ true → (a ≡ true) × (b ≡ true)
-both true true e = (refl, refl)
-both true false e = absurd (cc e)
-both false b e = absurd (cc e)
-
 -- each unit is below the bound
 abbrev AreBelow : ℕ → List ℕ → Type 0
 AreBelow n xs = list_all (λ unit. nat_lt unit n) xs ≡ true
@@ -66,7 +63,7 @@ both-are false b e f = absurd (cc e)
 pub below-more : (m n : ℕ) (xs : List ℕ) → m ≤ n → AreBelow m xs → AreBelow n xs
 below-more m n [] h u = refl
 below-more m n (x ∷ xs) h u =
-    let s = both (nat_lt x m) (list_all (λ unit. nat_lt unit m) xs) u in
+    let s = and_parts (nat_lt x m) (list_all (λ unit. nat_lt unit m) xs) u in
     let is = s.0 in
     let less : x < m = grind (arith, nat_tests) in
     let more : x < n = omega arith in both-are (nat_lt x n) (list_all (λ unit. nat_lt unit n) xs) (grind (arith, nat_tests)) (below-more m n xs h s.1)
@@ -103,8 +100,8 @@ packed-one wide [] (y ∷ ys) u v e = absurd (digit-more wide y (packed (base wi
 packed-one wide (x ∷ xs) [] u v e = absurd (digit-more wide x (packed (base wide) xs) (packed-some wide xs) e)
 packed-one wide (x ∷ xs) (y ∷ ys) u v e =
     let n = base wide in
-    let s = both (nat_lt x n) (list_all (λ unit. nat_lt unit n) xs) u in
-    let t = both (nat_lt y n) (list_all (λ unit. nat_lt unit n) ys) v in
+    let s = and_parts (nat_lt x n) (list_all (λ unit. nat_lt unit n) xs) u in
+    let t = and_parts (nat_lt y n) (list_all (λ unit. nat_lt unit n) ys) v in
     let few : x < n = (let is = s.0 in grind (arith, nat_tests)) in
     let less : y < n = (let is = t.0 in grind (arith, nat_tests)) in
     let one = digit-one wide x y (packed n xs) (packed n ys) few less e in
@@ -125,7 +122,7 @@ short-by : (few : Bool) (key : List ℕ) → nat_lt (length key) 8 ≡ few → i
 unfolding IsShort
 short-by true key e s = sym (ap (λ b. if b then list_all (λ unit. nat_lt unit 65536) key else nat_lt (length key) 16 && list_all (λ unit. nat_lt unit 256) key) e) ∙ s
 short-by false key e s =
-    let t = both (nat_lt (length key) 16) (list_all (λ unit. nat_lt unit 256) key)
+    let t = and_parts (nat_lt (length key) 16) (list_all (λ unit. nat_lt unit 256) key)
     (sym (ap (λ b. if b then list_all (λ unit. nat_lt unit 65536) key else nat_lt (length key) 16 && list_all (λ unit. nat_lt unit 256) key) e) ∙ s) in
     let is : nat_lt (length key) 16 ≡ true = t.0 in
     let less : length key < 16 = grind (arith, nat_tests) in (less, t.1)
@@ -183,15 +180,6 @@ else-side : (b p x y new : Bool) → (b ≡ false → new ≡ (p || y)) → (b �
 else-side true p x y new more others = sym (ap (λ q. q || x) (others refl))
 else-side false p x y new more others = more refl
 
-or-swap : (a b c : Bool) → (a || (b || c)) ≡ (b || (a || c))
-or-swap true true c = refl
-or-swap true false c = refl
-or-swap false b c = refl
-
-or-left : (a b c : Bool) → ((a || b) || c) ≡ (a || (b || c))
-or-left true b c = refl
-or-left false b c = refl
-
 any-push : (m k : ℕ) (few : List ℕ) → list_any (λ n. nat_eq n m) (few ++ k ∷ []) ≡ (nat_eq k m || list_any (λ n. nat_eq n m) few)
 any-push m k [] = refl
 any-push m k (n ∷ few) = ap (λ q. nat_eq n m || q) (any-push m k few) ∙ or-swap (nat_eq n m) (nat_eq k m) (list_any (λ n. nat_eq n m) few)
@@ -204,7 +192,7 @@ few_more old new short long key other s more =
     let few = list_any (λ k. nat_eq k n) old.items in
     let rest = contains nat_cmp short n in
     then-side (is_short_key other) p _ _ _
-    (λ t. ap (λ ks. list_any (λ k. nat_eq k n) ks || rest) more ∙ ap (λ q. q || rest) (any-push n (number_of key) old.items ∙ ap (λ q. q || few) (same-short key other s t)) ∙ or-left p few rest)
+    (λ t. ap (λ ks. list_any (λ k. nat_eq k n) ks || rest) more ∙ ap (λ q. q || rest) (any-push n (number_of key) old.items ∙ ap (λ q. q || few) (same-short key other s t)) ∙ or_assoc p few rest)
     (λ t. other-key key other true false s t (λ n. cc n))
 
 pub short_more : (few : Vec ℕ Global) (old new : BTreeSet ℕ) (long : BTreeSet (List ℕ)) (key other : List ℕ) → is_short_key key ≡ true

@@ -1,5 +1,5 @@
 -- One more item, or row, after those read.
-use Rattle.std.proofs.Common.{◌≡◌, ℕ, Bool, true, false, ◌||◌, List, ◌∷◌, refl, sym}
+use Rattle.std.proofs.Common.{◌≡◌, ℕ, false, List, ◌∷◌, refl, sym}
 use Rattle.std.specs.Prelude.{nat_eq}
 use Rattle.std.specs.Cmp.Lexicographic.{pointwise, bytes_decides}
 use Rattle.plist_value.specs.Plist.{Plist, Items, Pairs, no_pairs, pair}
@@ -7,7 +7,7 @@ use Rattle.ostep_lex.specs.Lexeme.{Lexeme, paren_close, comma}
 use Rattle.ostep_text.specs.Phrase.{Phrase, ItemsPhrase, items_end, last_item, an_item, RowPhrase, RowsPhrase, rows_end, a_row}
 use Rattle.ostep_text.specs.Sorting.{has_key}
 use Rattle.ostep_text.proofs.PhraseLemmas.{no-phrase}
-use Rattle.std.proofs.lemmas.Bool.{false_from_ne_true}
+use Rattle.std.proofs.lemmas.Bool.{false_from_ne_true, or_from, or_parts}
 use Rattle.plist_value.proofs.Items.{push}
 
 pub items-more : {inside at rest : List Lexeme} {vs : Items} {w : Plist} → ItemsPhrase inside vs at → Phrase at w (comma ∷ rest) → ItemsPhrase inside (push vs w) rest
@@ -24,27 +24,20 @@ abbrev pub push_row : Pairs → List ℕ → Plist → Pairs
 push_row no_pairs key v = pair key v no_pairs
 push_row (pair next w rows) key v = pair next w (push_row rows key v)
 
-pub neither : (b c : Bool) → (b || c) ≡ false → (b ≡ false) × (c ≡ false)
-neither true c e = cc e
-neither false c e = (refl, e)
-
-pub or-none : (b c : Bool) → b ≡ false → c ≡ false → (b || c) ≡ false
-or-none b c e f = rw e f
-
 pub has_key-head : (key next : List ℕ) (w : Plist) (rows : Pairs) → has_key key (pair next w rows) ≡ false → pointwise nat_eq key next ≡ false
-has_key-head key next w rows e = (neither (pointwise nat_eq key next) (has_key key rows) e).0
+has_key-head key next w rows e = (or_parts (pointwise nat_eq key next) (has_key key rows) e).0
 
 pub has_key-tail : (key next : List ℕ) (w : Plist) (rows : Pairs) → has_key key (pair next w rows) ≡ false → has_key key rows ≡ false
-has_key-tail key next w rows e = (neither (pointwise nat_eq key next) (has_key key rows) e).1
+has_key-tail key next w rows e = (or_parts (pointwise nat_eq key next) (has_key key rows) e).1
 
 pub apart-sym : (key next : List ℕ) → pointwise nat_eq key next ≡ false → pointwise nat_eq next key ≡ false
 apart-sym key next e =
     false_from_ne_true (pointwise nat_eq next key) (λ same. let is : key ≡ next = sym ((bytes_decides next key).0 same) in cc (e, (bytes_decides key next).1 is))
 
 has_key-push : (next key : List ℕ) (v : Plist) (rows : Pairs) → pointwise nat_eq next key ≡ false → has_key next rows ≡ false → has_key next (push_row rows key v) ≡ false
-has_key-push next key v no_pairs e f = or-none (pointwise nat_eq next key) false e refl
+has_key-push next key v no_pairs e f = or_from (pointwise nat_eq next key) false e refl
 has_key-push next key v (pair first w rows) e f =
-    or-none (pointwise nat_eq next first) (has_key next (push_row rows key v)) (has_key-head next first w rows f) (has_key-push next key v rows e (has_key-tail next first w rows f))
+    or_from (pointwise nat_eq next first) (has_key next (push_row rows key v)) (has_key-head next first w rows f) (has_key-push next key v rows e (has_key-tail next first w rows f))
 
 pub rows-more : {inside at rest : List Lexeme} {rows : Pairs} {key : List ℕ} {v : Plist} → RowsPhrase inside rows at → RowPhrase at key v rest → has_key key rows ≡ false → RowsPhrase inside (push_row rows key v) rest
 rows-more rows_end p d = a_row p rows_end refl

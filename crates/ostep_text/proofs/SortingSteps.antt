@@ -77,7 +77,7 @@ put-payload key v ps d = omega (arith, among-payload (put-stands key v ps d))
 pub put-depth : (key : List ℕ) (v : Plist) (ps : Pairs) (levels : ℕ) → has_key key ps ≡ false → 1 ≤ levels → depth v ≤ levels → depth_of_pairs ps ≤ levels → depth_of_pairs (put_pair key v ps) ≤ levels
 put-depth key v ps levels d one deep all = omega (arith, among-depth (put-stands key v ps d))
 
-or-swap : (b c d : Bool) → (b || (c || d)) ≡ (c || (b || d))
+pub or-swap : (b c d : Bool) → (b || (c || d)) ≡ (c || (b || d))
 or-swap true true d = refl
 or-swap _ _ d = refl
 

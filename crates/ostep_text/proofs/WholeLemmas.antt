@@ -5,15 +5,15 @@ use Rattle.std.specs.Prelude.{max, nat_eq}
 use Rattle.std.specs.Cmp.Lexicographic.{pointwise, bytes_decides}
 use Rattle.plist_value.specs.Plist.{text, Plist, scalar, table, Items, no_items, item, Pairs, no_pairs, pair}
 use Rattle.plist_value.specs.Limits.{nodes, nodes_of_items, nodes_of_pairs, depth, depth_of_items, depth_of_pairs, payload, payload_of_items, payload_of_pairs}
+use Rattle.plist_value.proofs.Items.{some_depth}
 use Rattle.ostep_lex.specs.Lexeme.{Lexeme, brace_open, paren_open, paren_close, semicolon, equals, text as string}
 use Rattle.ostep_text.specs.Phrase.{Phrase, a_string, a_list, a_table, ItemsPhrase, items_end, last_item, an_item, RowPhrase, with_value, key_alone, RowsPhrase, rows_end, a_row, TopPhrase, a_value, bare_table}
 use Rattle.ostep_text.specs.Sorting.{has_key, AreReordered}
 use Rattle.ostep_text.specs.Begun
 use Rattle.ostep_text.specs.Begun.{Before, nothing, opened, with_items, with_rows, with_key, ValueAt, RowsAt, NewKeyAt, NodeAt, begins_value}
 use Rattle.ostep_text.specs.Stands.{payload_at}
-use Rattle.std.proofs.lemmas.Bool.{false_from_ne_true}
+use Rattle.std.proofs.lemmas.Bool.{false_from_ne_true, or_from}
 use Rattle.ostep_text.proofs.SizeLemmas.{reordered-nodes, reordered-depth, reordered-payload}
-use Rattle.ostep_text.proofs.PhraseSteps.{or-none}
 use Rattle.ostep_text.proofs.PhraseLemmas.{begins_row, row-begins, no-phrase, Phrase-same, Row-same, value-or-row}
 
 -- what comes before, together with this much more, is within the value
@@ -113,7 +113,7 @@ after-row {key} {next = next} {rows = rows} {all = all} d r = record {
   value = r.value;
   after = r.after;
   row = r.row;
-  once = or-none (pointwise nat_eq key next) (has_key key rows) (other_key key next all d r.among) r.once;
+  once = or_from (pointwise nat_eq key next) (has_key key rows) (other_key key next all d r.among) r.once;
   among = or-same (pointwise nat_eq key next) (has_key key all) r.among;
   nodes_are = omega (arith, r.nodes_are);
   depth_is = omega (arith, r.depth_is);
@@ -252,10 +252,6 @@ pub some-nodes : (v : Plist) → 1 ≤ nodes v
 some-nodes (scalar s) = omega arith
 some-nodes _ = omega arith
 
-pub some-depth : (v : Plist) → 1 ≤ depth v
-some-depth (scalar s) = omega arith
-some-depth _ = omega arith
-
 first-payload : {at rest : List Lexeme} {w : Plist} → Phrase at w rest → payload_at at ≤ payload w
 first-payload a_string = omega arith
 first-payload _ = omega arith
@@ -277,7 +273,7 @@ rows-node rows_end h w = cc h
 rows-node (a_row r s d) h w = node-part w (omega arith) (omega arith) (omega (arith, row-payload r))
 
 value-node : {b : Before} {at : List Lexeme} {v : Plist} → ValueThere b v at → begins_value at ≡ true → NodeWithin b at v
-value-node (stands {w = x} p w) h = node-part w (some-nodes x) (some-depth x) (first-payload p)
+value-node (stands {w = x} p w) h = node-part w (some-nodes x) (some_depth x) (first-payload p)
 value-node (rows p w) h = rows-node p h w
 
 key-node : {b : Before} {inside rest : List Lexeme} {key : List ℕ} {before : Pairs} {v : Plist} → RowsThere b v inside

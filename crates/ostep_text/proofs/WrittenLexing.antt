@@ -1,9 +1,10 @@
 -- The tokens of a written text are those of its value.
-use Rattle.std.proofs.Common.{◌≡◌, ℕ, ◌+◌, ◌*◌, ◌≤◌, Bool, true, false, ◌&&◌, List, [], ◌∷◌, ◌++◌, length, refl, arith, length-append, lit≤, ◌/◌, ◌%◌, ◌<◌, sym, ap, subst, ◌∙◌, if◌then◌else◌, suc, append_assoc, not, Some}
+use Rattle.std.proofs.Common.{◌≡◌, ℕ, ◌+◌, ◌*◌, ◌≤◌, true, false, List, [], ◌∷◌, ◌++◌, length, refl, arith, length-append, lit≤, ◌/◌, ◌%◌, ◌<◌, sym, ap, subst, ◌∙◌, suc, append_assoc, not, Some}
 use Rattle.std.specs.Prelude.{◌==◌, codes, flat_map, nat_eq}
 use Rattle.std.specs.Int.{is_in_range}
 use Rattle.std.specs.Char.{digit_char, digit_value, is_digit, is_ascii_alphanumeric}
 use Rattle.std.specs.Char.Escape.{encode_utf16}
+use Rattle.std.proofs.lemmas.Bool.{and_parts, cond_both}
 use Rattle.std.proofs.lemmas.Bool.Decides.{nat_tests}
 use Rattle.std.proofs.lemmas.Str.{digit_value-digit_char}
 use Rattle.std.specs.List.{starts_with}
@@ -25,6 +26,7 @@ use Rattle.ostep_lex.specs.Gap
 use Rattle.ostep_lex.specs.Gap.{begins_comment}
 use Rattle.ostep_lex.specs.Lexeme
 use Rattle.ostep_lex.specs.Lexing.{Lexes, none, next}
+use Rattle.ostep_lex.proofs.LexerSteps.{no_comment}
 use Rattle.ostep_text.specs.Text.{lexemes}
 use Rattle.ostep_text.proofs.SortedLemmas.{low_key}
 use Rattle.ostep_text.proofs.SortingSteps.{as-they-are, pairs-ascend}
@@ -49,10 +51,6 @@ abbrev mutual
   pair_tokens no_pairs rest = rest
   pair_tokens (pair key v ps) rest = string key ∷ equals ∷ value_tokens v (semicolon ∷ pair_tokens ps rest)
 
-pub both : (x y : Bool) → (x && y) ≡ true → (x ≡ true) × (y ≡ true)
-both true true e = (refl, refl)
-both _ _ e = cc e
-
 scalar-phrase : (s : Scalar) (rest : List Lexeme) → is_writable (scalar s) ≡ true → Phrase (scalar_tokens s rest) (scalar s) rest
 scalar-phrase (text units) rest e = a_string
 scalar-phrase (bytes xs) rest e = some_data
@@ -67,24 +65,21 @@ mutual
   items-phrase : (vs : Items) (rest : List Lexeme) → AreItems vs → are_writable_items vs ≡ true → ItemsPhrase (item_tokens vs (paren_close ∷ rest)) vs (paren_close ∷ rest)
   items-phrase no_items rest h e = items_end
   items-phrase (item v vs) rest h e =
-      let w = both (is_writable v) (are_writable_items vs) e in
+      let w = and_parts (is_writable v) (are_writable_items vs) e in
       an_item (value-phrase v _ h.0 w.0) (items-phrase vs rest h.1 w.1)
 
   rows-phrase : (ps : Pairs) (rest : List Lexeme) → ArePairs ps → are_writable_pairs ps ≡ true → RowsPhrase (pair_tokens ps rest) ps rest
   rows-phrase no_pairs rest h e = rows_end
   rows-phrase (pair key v ps) rest h e =
-      let w = both (is_writable v) (are_writable_pairs ps) e in
+      let w = and_parts (is_writable v) (are_writable_pairs ps) e in
       a_row (with_value (value-phrase v _ h.1 w.0)) (rows-phrase ps rest h.3 w.1) (low_key key ps h.2 (pairs-ascend ps h.3))
 
 -- at most six bytes for a unit, and two quotes
-if-short : (b : Bool) (most : ℕ) (xs ys : List ℕ) → length xs ≤ most → length ys ≤ most → length (if b then xs else ys) ≤ most
-if-short true most xs ys h k = h
-if-short false most xs ys h k = k
-
 unit-short : (unit : ℕ) → length (quoted_unit unit) ≤ 6
 unit-short unit =
-    if-short (unit == 34) 6 _ _ (lit≤ tt) (if-short (unit == 92) 6 _ _ (lit≤ tt) (if-short (unit == 10) 6 _ _ (lit≤ tt)
-    (if-short (unit == 9) 6 _ _ (lit≤ tt) (if-short (unit == 13) 6 _ _ (lit≤ tt) (if-short (is_in_range 0x20 0x7e unit) 6 _ _ (lit≤ tt) (lit≤ tt))))))
+    let P : List ℕ → Type 0 = λ os. length os ≤ 6 in
+    cond_both (unit == 34) _ _ P (λ _. lit≤ tt) (λ _. cond_both (unit == 92) _ _ P (λ _. lit≤ tt) (λ _. cond_both (unit == 10) _ _ P (λ _. lit≤ tt) (λ _.
+    cond_both (unit == 9) _ _ P (λ _. lit≤ tt) (λ _. cond_both (unit == 13) _ _ P (λ _. lit≤ tt) (λ _. cond_both (is_in_range 0x20 0x7e unit) _ _ P (λ _. lit≤ tt) (λ _. lit≤ tt))))))
 
 units-short : (units : List ℕ) → length (flat_map quoted_unit units) ≤ 6 * length units
 units-short [] = omega arith
@@ -95,7 +90,7 @@ quotes-short xs most h = simp length-append (omega (arith, h))
 
 text-short : (units : List ℕ) → length (written_text units) ≤ 6 * length units + 2
 text-short units =
-    if-short (is_plain units) (6 * length units + 2) _ _ (omega arith) (quotes-short (flat_map quoted_unit units) (6 * length units) (units-short units))
+    cond_both (is_plain units) _ _ (λ os. length os ≤ 6 * length units + 2) (λ _. omega arith) (λ _. quotes-short (flat_map quoted_unit units) (6 * length units) (units-short units))
 
 digits-long : (xs : List ℕ) → length (flat_map two_digits xs) ≡ 2 * length xs
 digits-long [] = refl
@@ -118,19 +113,14 @@ mutual
   items-short : (vs : Items) → are_writable_items vs ≡ true → length (written_items vs) ≤ 3 * payload_of_items vs + 5 * nodes_of_items vs
   items-short no_items e = omega arith
   items-short (item v vs) e =
-      let w = both (is_writable v) (are_writable_items vs) e in
+      let w = and_parts (is_writable v) (are_writable_items vs) e in
       simp length-append (omega (arith, value-short v w.0, items-short vs w.1))
 
   pairs-short : (ps : Pairs) → are_writable_pairs ps ≡ true → length (written_pairs ps) ≤ 3 * payload_of_pairs ps + 5 * nodes_of_pairs ps
   pairs-short no_pairs e = omega arith
   pairs-short (pair key v ps) e =
-      let w = both (is_writable v) (are_writable_pairs ps) e in
+      let w = and_parts (is_writable v) (are_writable_pairs ps) e in
       simp length-append (omega (arith, text-short key, value-short v w.0, pairs-short ps w.1))
-
-if-piece : (b : Bool) (xs ys units rest : List ℕ) → (b ≡ true → Piece 34 (xs ++ rest) units rest) → (b ≡ false → Piece 34 (ys ++ rest) units rest)
-    → Piece 34 ((if b then xs else ys) ++ rest) units rest
-if-piece true xs ys units rest h k = h refl
-if-piece false xs ys units rest h k = k refl
 
 equal : (x y : ℕ) → (x == y) ≡ true → x ≡ y
 equal x y e = grind (arith, nat_tests)
@@ -180,12 +170,13 @@ number-piece unit rest h = number-escape _ unit rest (digit-test (unit / 256 / 1
 
 pub unit-piece : (unit : ℕ) (rest : List ℕ) → unit < 65536 → Piece 34 (quoted_unit unit ++ rest) (unit ∷ []) rest
 unit-piece unit rest h =
-    if-piece (unit == 34) _ _ _ rest (λ e. letter-piece unit 34 34 rest e refl refl refl) (λ q.
-    if-piece (unit == 92) _ _ _ rest (λ e. letter-piece unit 92 92 rest e refl refl refl) (λ b.
-    if-piece (unit == 10) _ _ _ rest (λ e. letter-piece unit 10 110 rest e refl refl refl) (λ n.
-    if-piece (unit == 9) _ _ _ rest (λ e. letter-piece unit 9 116 rest e refl refl refl) (λ t.
-    if-piece (unit == 13) _ _ _ rest (λ e. letter-piece unit 13 114 rest e refl refl refl) (λ r.
-    if-piece (is_in_range 0x20 0x7e unit) _ _ _ rest (λ p. raw-piece unit rest q b p) (λ p. number-piece unit rest h))))))
+    let P : List ℕ → Type 0 = λ os. Piece 34 (os ++ rest) (unit ∷ []) rest in
+    cond_both (unit == 34) _ _ P (λ e. letter-piece unit 34 34 rest e refl refl refl) (λ q.
+    cond_both (unit == 92) _ _ P (λ e. letter-piece unit 92 92 rest e refl refl refl) (λ b.
+    cond_both (unit == 10) _ _ P (λ e. letter-piece unit 10 110 rest e refl refl refl) (λ n.
+    cond_both (unit == 9) _ _ P (λ e. letter-piece unit 9 116 rest e refl refl refl) (λ t.
+    cond_both (unit == 13) _ _ P (λ e. letter-piece unit 13 114 rest e refl refl refl) (λ r.
+    cond_both (is_in_range 0x20 0x7e unit) _ _ P (λ p. raw-piece unit rest q b p) (λ p. number-piece unit rest h))))))
 
 pub units-quoted : (units rest : List ℕ) → AreUnits units → Quoted 34 (flat_map quoted_unit units ++ (34 ∷ rest)) units rest
 units-quoted [] rest h = Quoted.close refl
@@ -213,7 +204,7 @@ alphanumeric-slash c e = grind (arith, nat_tests)
 pub units-run : (units rest : List ℕ) → are_alphanumeric units ≡ true → begins_run rest ≡ false → Run (units ++ rest) units rest
 units-run [] rest h b = Quoted.stop b
 units-run (unit ∷ units) rest h b =
-    let w = both (is_ascii_alphanumeric unit) (are_alphanumeric units) h in
+    let w = and_parts (is_ascii_alphanumeric unit) (are_alphanumeric units) h in
     Quoted.more (alphanumeric-run unit w.0) (units-run units rest w.1 b)
 
 -- the text has tokens, which are these
@@ -239,25 +230,16 @@ token-more {p} {from} {after} {l} t d = record {
 mark-more : {p : Offsets} {c : ℕ} {rest : List ℕ} {l : Lexeme} {ls : List Lexeme} → mark_token c ≡ Some l → Lexed p rest ls → Lexed p (c ∷ rest) (l ∷ ls)
 mark-more m d = token-more (Lexeme.mark m) d
 
-if-token : (b : Bool) (xs ys rest : List ℕ) (l : Lexeme) → (b ≡ true → IsToken (xs ++ rest) l rest) → (b ≡ false → IsToken (ys ++ rest) l rest)
-    → IsToken ((if b then xs else ys) ++ rest) l rest
-if-token true xs ys rest l h k = h refl
-if-token false xs ys rest l h k = k refl
-
-no-comment : (c : ℕ) (rest : List ℕ) → (c == 47) ≡ false → begins_comment (c ∷ rest) ≡ false
-no-comment c [] e = refl
-no-comment c (d ∷ rest) e = rw e refl
-
 plain-token : (units rest : List ℕ) → is_plain units ≡ true → begins_run rest ≡ false → IsToken (units ++ rest) (string units) rest
 plain-token [] rest e b = cc e
 plain-token (c ∷ units) rest e b =
-    let w = both (are_alphanumeric (c ∷ units)) (not (starts_with nat_eq (c ∷ units) (codes "bplist"))) e in
-    let u = both (is_ascii_alphanumeric c) (are_alphanumeric units) w.0 in
-    Lexeme.run (alphanumeric-run c u.0) (no-comment c (units ++ rest) (alphanumeric-slash c u.0)) (units-run units rest u.1 b)
+    let w = and_parts (are_alphanumeric (c ∷ units)) (not (starts_with nat_eq (c ∷ units) (codes "bplist"))) e in
+    let u = and_parts (is_ascii_alphanumeric c) (are_alphanumeric units) w.0 in
+    Lexeme.run (alphanumeric-run c u.0) (no_comment c (units ++ rest) (alphanumeric-slash c u.0)) (units-run units rest u.1 b)
 
 text-token : (units rest : List ℕ) → AreUnits units → begins_run rest ≡ false → IsToken (written_text units ++ rest) (string units) rest
 text-token units rest h b =
-    if-token (is_plain units) _ _ rest (string units) (λ e. plain-token units rest e b)
+    cond_both (is_plain units) _ _ (λ os. IsToken (os ++ rest) (string units) rest) (λ e. plain-token units rest e b)
     (λ e. rw (append_assoc (flat_map quoted_unit units) (34 ∷ []) rest) (Lexeme.quoted refl (units-quoted units rest h)))
 
 bytes-token : (xs rest : List ℕ) → AreOctets xs → IsToken (written_data xs ++ rest) (data_token xs) rest
@@ -292,7 +274,7 @@ mutual
       → Lexed p (written_items vs ++ rest) (item_tokens vs ls)
   items-lexed p no_items rest ls h e d = d
   items-lexed p (item v vs) rest ls h e d =
-      let w = both (is_writable v) (are_writable_items vs) e in
+      let w = and_parts (is_writable v) (are_writable_items vs) e in
       rw (three (written v) (codes ",\n") (written_items vs) rest)
       (value-lexed p v _ (comma ∷ item_tokens vs ls) h.0 w.0 refl (mark-more refl (white-more refl (items-lexed p vs rest ls h.1 w.1 d))))
 
@@ -300,7 +282,7 @@ mutual
       → Lexed p (written_pairs ps ++ rest) (pair_tokens ps ls)
   pairs-lexed p no_pairs rest ls h e d = d
   pairs-lexed p (pair key v ps) rest ls h e d =
-      let w = both (is_writable v) (are_writable_pairs ps) e in
+      let w = and_parts (is_writable v) (are_writable_pairs ps) e in
       rw (five (written_text key) (codes " = ") (written v) (codes ";\n") (written_pairs ps) rest)
       (token-more (text-token key _ h.0 refl) (white-more refl (mark-more refl (white-more refl
       (value-lexed p v _ (semicolon ∷ pair_tokens ps ls) h.1 w.0 refl (mark-more refl (white-more refl (pairs-lexed p ps rest ls h.3 w.1 d))))))))

@@ -1,6 +1,7 @@
 -- A written text is ASCII, so its bytes are its characters. It does not begin like a binary file,
 -- and it is a text of its value.
 use Rattle.std.proofs.Common.{◌≡◌, ℕ, ◌<◌, Bool, true, false, List, [], ◌∷◌, ◌++◌, refl, sym, subst, ◌&&◌, arith, ◌/◌, ◌%◌, ◌≤◌, not, ◌||◌, ap, ◌∙◌, if◌then◌else◌, suc, lit≤, Some, None, length-append}
+use Rattle.std.proofs.lemmas.Bool.{and_parts, cond_both, not-true, or_parts}
 use Rattle.std.proofs.lemmas.Bool.Decides.{nat_tests}
 use Rattle.std.specs.Char.{is_ascii_alphanumeric, digit_char}
 use Rattle.std.specs.Prelude.{◌==◌, codes, flat_map, nat_eq, nat_lt}
@@ -19,9 +20,8 @@ use Rattle.ostep_lex.specs.Gap
 use Rattle.ostep_lex.specs.Lexing.{none}
 use Rattle.ostep_text.specs.Phrase.{TopPhrase, a_value}
 use Rattle.ostep_text.specs.Laws.{IsShortText, WrittenIsText}
-use Rattle.ostep_text.proofs.PhraseSteps.{neither}
 use Rattle.ostep_text.proofs.Places.{is-text}
-use Rattle.ostep_text.proofs.WrittenLexing.{both, value-phrase, value-short, Lexed, value-lexed}
+use Rattle.ostep_text.proofs.WrittenLexing.{value-phrase, value-short, Lexed, value-lexed}
 
 -- characters that UTF-8 encodes in one byte
 abbrev pub are_ascii : List ℕ → Bool
@@ -30,7 +30,7 @@ are_ascii (c ∷ cs) = nat_lt c 128 && are_ascii cs
 
 append-ascii : (xs ys : List ℕ) → are_ascii xs ≡ true → are_ascii ys ≡ true → are_ascii (xs ++ ys) ≡ true
 append-ascii [] ys h k = k
-append-ascii (x ∷ xs) ys h k = let w = both (nat_lt x 128) (are_ascii xs) h in rw w.0 (append-ascii xs ys w.1 k)
+append-ascii (x ∷ xs) ys h k = let w = and_parts (nat_lt x 128) (are_ascii xs) h in rw w.0 (append-ascii xs ys w.1 k)
 
 alphanumeric-ascii : (unit : ℕ) → is_ascii_alphanumeric unit ≡ true → nat_lt unit 128 ≡ true
 alphanumeric-ascii unit e = grind (arith, nat_tests)
@@ -38,15 +38,11 @@ alphanumeric-ascii unit e = grind (arith, nat_tests)
 alphanumerics-ascii : (units : List ℕ) → are_alphanumeric units ≡ true → are_ascii units ≡ true
 alphanumerics-ascii [] e = refl
 alphanumerics-ascii (unit ∷ units) e =
-    let w = both (is_ascii_alphanumeric unit) (are_alphanumeric units) e in
+    let w = and_parts (is_ascii_alphanumeric unit) (are_alphanumeric units) e in
     rw (alphanumeric-ascii unit w.0) (alphanumerics-ascii units w.1)
 
 plain-ascii : (units : List ℕ) → is_plain units ≡ true → are_ascii units ≡ true
-plain-ascii units e = alphanumerics-ascii units (both _ _ (both _ _ e).0).1
-
-if-ascii : (b : Bool) (xs ys : List ℕ) → (b ≡ true → are_ascii xs ≡ true) → (b ≡ false → are_ascii ys ≡ true) → are_ascii (if b then xs else ys) ≡ true
-if-ascii true xs ys h k = h refl
-if-ascii false xs ys h k = k refl
+plain-ascii units e = alphanumerics-ascii units (and_parts _ _ (and_parts _ _ e).0).1
 
 digit-ascii : (d : ℕ) → d < 16 → nat_lt (digit_char d) 128 ≡ true
 digit-ascii d h = grind (arith, nat_tests)
@@ -59,8 +55,9 @@ printable-ascii c h = let l : nat_lt c 128 ≡ true = grind (arith, nat_tests) i
 
 unit-ascii : (unit : ℕ) → unit < 65536 → are_ascii (quoted_unit unit) ≡ true
 unit-ascii unit h =
-    if-ascii (unit == 34) _ _ (λ e. refl) (λ e. if-ascii (unit == 92) _ _ (λ e. refl) (λ e. if-ascii (unit == 10) _ _ (λ e. refl) (λ e.
-    if-ascii (unit == 9) _ _ (λ e. refl) (λ e. if-ascii (unit == 13) _ _ (λ e. refl) (λ e. if-ascii (is_in_range 0x20 0x7e unit) _ _ (λ e. printable-ascii unit e)
+    let P : List ℕ → Type 0 = λ os. are_ascii os ≡ true in
+    cond_both (unit == 34) _ _ P (λ e. refl) (λ e. cond_both (unit == 92) _ _ P (λ e. refl) (λ e. cond_both (unit == 10) _ _ P (λ e. refl) (λ e.
+    cond_both (unit == 9) _ _ P (λ e. refl) (λ e. cond_both (unit == 13) _ _ P (λ e. refl) (λ e. cond_both (is_in_range 0x20 0x7e unit) _ _ P (λ e. printable-ascii unit e)
     (λ e. append-ascii (92 ∷ 85 ∷ two_digits (unit / 256)) (two_digits (unit % 256)) (two-ascii (unit / 256) (omega (arith, h))) (two-ascii (unit % 256) (omega (arith, h)))))))))
 
 units-ascii : (units : List ℕ) → AreUnits units → are_ascii (flat_map quoted_unit units) ≡ true
@@ -69,7 +66,7 @@ units-ascii (unit ∷ units) h = append-ascii (quoted_unit unit) (flat_map quote
 
 text-ascii : (units : List ℕ) → AreUnits units → are_ascii (written_text units) ≡ true
 text-ascii units h =
-    if-ascii (is_plain units) _ _ (plain-ascii units) (λ e. append-ascii (flat_map quoted_unit units) (34 ∷ []) (units-ascii units h) refl)
+    cond_both (is_plain units) _ _ (λ os. are_ascii os ≡ true) (plain-ascii units) (λ e. append-ascii (flat_map quoted_unit units) (34 ∷ []) (units-ascii units h) refl)
 
 octets-ascii : (xs : List ℕ) → AreOctets xs → are_ascii (flat_map two_digits xs) ≡ true
 octets-ascii [] h = refl
@@ -104,14 +101,14 @@ below c e = grind (arith, nat_tests)
 
 spelled : (xs : List ℕ) → are_ascii xs ≡ true → octets_of utf8 xs ≡ xs
 spelled [] h = refl
-spelled (x ∷ xs) h = let w = both (nat_lt x 128) (are_ascii xs) h in rw (encode_ascii x (below x w.0), spelled xs w.1) refl
+spelled (x ∷ xs) h = let w = and_parts (nat_lt x 128) (are_ascii xs) h in rw (encode_ascii x (below x w.0), spelled xs w.1) refl
 
 scalar-ascii-code : (c : ℕ) → nat_lt c 128 ≡ true → is_scalar c ≡ true
 scalar-ascii-code c h = grind (arith, nat_tests)
 
 scalars : (xs : List ℕ) → are_ascii xs ≡ true → all_scalars xs ≡ true
 scalars [] h = refl
-scalars (x ∷ xs) h = let w = both (nat_lt x 128) (are_ascii xs) h in rw (scalar-ascii-code x w.0) (scalars xs w.1)
+scalars (x ∷ xs) h = let w = and_parts (nat_lt x 128) (are_ascii xs) h in rw (scalar-ascii-code x w.0) (scalars xs w.1)
 
 no-mark : (m c : ℕ) → c < 128 → 128 ≤ m → nat_eq m c ≡ false
 no-mark m c h k = grind (arith, nat_tests)
@@ -119,7 +116,7 @@ no-mark m c h k = grind (arith, nat_tests)
 encoding-ascii : (xs : List ℕ) → are_ascii xs ≡ true → (encoding_of xs ≡ utf8) × (mark_of xs ≡ [])
 encoding-ascii [] h = (refl, refl)
 encoding-ascii (x ∷ xs) h =
-    let b = below x (both (nat_lt x 128) (are_ascii xs) h).0 in
+    let b = below x (and_parts (nat_lt x 128) (are_ascii xs) h).0 in
     (rw (no-mark 0xfe x b (lit≤ tt), no-mark 0xff x b (lit≤ tt)) refl, rw (no-mark 0xfe x b (lit≤ tt), no-mark 0xff x b (lit≤ tt), no-mark 0xef x b (lit≤ tt)) refl)
 
 pub ascii-spells : (xs : List ℕ) → are_ascii xs ≡ true → Spells xs xs
@@ -137,25 +134,17 @@ has_newline (c ∷ rest) = (c == 10) || has_newline rest
 
 newline-after : (needle xs : List ℕ) → has_newline needle ≡ false → starts_with nat_eq (xs ++ 10 ∷ []) needle ≡ starts_with nat_eq xs needle
 newline-after [] xs h = refl
-newline-after (n ∷ needle) [] h = rw (neither (n == 10) (has_newline needle) h).0 refl
-newline-after (n ∷ needle) (x ∷ xs) h = ap (λ b. nat_eq n x && b) (newline-after needle xs (neither (n == 10) (has_newline needle) h).1)
-
-if-binary : (b : Bool) (xs ys : List ℕ) → (b ≡ true → starts_with nat_eq (xs ++ 10 ∷ []) (codes "bplist") ≡ false) → (b ≡ false → starts_with nat_eq (ys ++ 10 ∷ []) (codes "bplist") ≡ false)
-    → starts_with nat_eq ((if b then xs else ys) ++ 10 ∷ []) (codes "bplist") ≡ false
-if-binary true xs ys h k = h refl
-if-binary false xs ys h k = k refl
-
-not-false : (b : Bool) → not b ≡ true → b ≡ false
-not-false true e = cc e
-not-false false e = refl
+newline-after (n ∷ needle) [] h = rw (or_parts (n == 10) (has_newline needle) h).0 refl
+newline-after (n ∷ needle) (x ∷ xs) h = ap (λ b. nat_eq n x && b) (newline-after needle xs (or_parts (n == 10) (has_newline needle) h).1)
 
 plain-binary : (units : List ℕ) → is_plain units ≡ true → starts_with nat_eq (units ++ 10 ∷ []) (codes "bplist") ≡ false
 plain-binary units e =
     newline-after (codes "bplist") units refl
-    ∙ not-false (starts_with nat_eq units (codes "bplist")) (both (not (is_empty units) && are_alphanumeric units) (not (starts_with nat_eq units (codes "bplist"))) e).1
+    ∙ not-true (starts_with nat_eq units (codes "bplist")) (and_parts (not (is_empty units) && are_alphanumeric units) (not (starts_with nat_eq units (codes "bplist"))) e).1
 
 pub not-binary : (v : Plist) → starts_with nat_eq (written v ++ codes "\n") (codes "bplist") ≡ false
-not-binary (scalar (text units)) = if-binary (is_plain units) _ _ (plain-binary units) (λ e. refl)
+not-binary (scalar (text units)) =
+    cond_both (is_plain units) _ _ (λ os. starts_with nat_eq (os ++ 10 ∷ []) (codes "bplist") ≡ false) (plain-binary units) (λ e. refl)
 not-binary _ = refl
 
 stated : (b : Bool) (xs octets : List ℕ) → (if b then Some xs else None) ≡ Some octets → (b ≡ true) × (xs ≡ octets)
