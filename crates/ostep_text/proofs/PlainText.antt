@@ -4,7 +4,8 @@ use Rattle.std.specs.Prelude.{flat_map}
 use Rattle.std.specs.Char.{is_ascii_alphanumeric}
 use Rattle.std.proofs.lemmas.Bool.{and_parts}
 use Rattle.std.proofs.lemmas.Bool.Decides.{nat_tests}
-use Rattle.ostep_text.specs.Written.{are_alphanumeric, is_plain, quoted_unit, written_text}
+use Rattle.plist_value.specs.Escapes.{quoted_unit}
+use Rattle.ostep_text.specs.Written.{are_alphanumeric, is_plain, written_text}
 
 unit_plain : (unit : ℕ) → is_ascii_alphanumeric unit ≡ true → quoted_unit unit ≡ unit ∷ []
 unit_plain unit e = grind (arith, nat_tests)

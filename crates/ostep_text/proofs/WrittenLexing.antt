@@ -13,7 +13,8 @@ use Rattle.plist_value.specs.Limits.{nodes, nodes_of_items, nodes_of_pairs, payl
 use Rattle.ostep_lex.specs.Lexeme.{Lexeme, brace_open, brace_close, paren_open, paren_close, comma, semicolon, equals, text as string, octets as data_token, IsToken, Located, mark_token}
 use Rattle.ostep_text.specs.Phrase.{Phrase, a_string, some_data, a_list, a_table, ItemsPhrase, items_end, an_item, RowsPhrase, with_value, rows_end, a_row}
 use Rattle.plist_value.specs.Writable.{is_writable, are_writable_items, are_writable_pairs}
-use Rattle.ostep_text.specs.Written.{written_data, is_plain, quoted_unit, written_text, written, written_items, written_pairs, are_alphanumeric}
+use Rattle.plist_value.specs.Escapes.{quoted_unit}
+use Rattle.ostep_text.specs.Written.{written_data, is_plain, written_text, written, written_items, written_pairs, are_alphanumeric}
 use Rattle.plist_value.specs.Digits.{two_digits}
 use Rattle.ostep_lex.specs.Character.{is_run, is_white}
 use Rattle.ostep_lex.specs.Digits.{Number, begins_digit, number_from}

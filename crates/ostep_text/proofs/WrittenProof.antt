@@ -11,7 +11,8 @@ use Rattle.std.specs.Str.{all_scalars}
 use Rattle.std.proofs.lemmas.Str.{encode_ascii}
 use lib.Utf8.{scalar as is_scalar}
 use Rattle.plist_value.specs.Writable.{is_writable}
-use Rattle.ostep_text.specs.Written.{are_alphanumeric, is_plain, is_empty, quoted_unit, written_text, written, written_items, written_pairs}
+use Rattle.plist_value.specs.Escapes.{quoted_unit}
+use Rattle.ostep_text.specs.Written.{are_alphanumeric, is_plain, is_empty, written_text, written, written_items, written_pairs}
 use Rattle.plist_value.specs.Digits.{two_digits}
 use Rattle.plist_value.specs.Plist.{Scalar, text, bytes, Plist, scalar, list, table, Items, no_items, item, Pairs, no_pairs, pair, AreUnits, AreOctets, AreItems, ArePairs, IsPlist}
 use Rattle.ostep_lex.specs.Encoding.{Spells, utf8, octets_of, encoding_of, mark_of, offsets_of}

@@ -1,12 +1,12 @@
 -- The text written for a value.
-use Rattle.std.specs.Prelude.{ℕ, ◌/◌, ◌%◌, Bool, true, false, not, ◌&&◌, ◌==◌, List, [], ◌∷◌, ◌++◌}
+use Rattle.std.specs.Prelude.{ℕ, Bool, true, false, not, ◌&&◌, List, [], ◌∷◌, ◌++◌}
 use Rattle.std.specs.Prelude.{Option, Some, None, nat_eq, if◌then◌else◌, codes, flat_map}
 use Rattle.std.specs.Char.{is_ascii_alphanumeric}
-use Rattle.std.specs.Int.{is_in_range}
 use Rattle.std.specs.List.{starts_with}
 use Rattle.plist_value.specs.Plist.{Scalar, text, bytes, Plist, scalar, list, table, Items}
 use Rattle.plist_value.specs.Plist.{no_items, item, Pairs, no_pairs, pair}
 use Rattle.plist_value.specs.Digits.{two_digits}
+use Rattle.plist_value.specs.Escapes.{quoted_unit}
 use Rattle.plist_value.specs.Writable.{is_writable}
 
 -- `<`, the digits of the bytes, `>`
@@ -25,18 +25,6 @@ is_empty (unit ∷ units) = false
 abbrev pub is_plain : List ℕ → Bool
 is_plain units = not (is_empty units) && are_alphanumeric units
     && not (starts_with nat_eq units (codes "bplist"))
-
--- a unit between quotes: an escape, the unit itself if it is a printable ASCII character, or `\U`
--- and four lower-case hexadecimal digits
-abbrev pub quoted_unit : ℕ → List ℕ
-quoted_unit unit =
-    if unit == 34 then codes "\\\""
-    else (if unit == 92 then codes "\\\\"
-    else (if unit == 10 then codes "\\n"
-    else (if unit == 9 then codes "\\t"
-    else (if unit == 13 then codes "\\r"
-    else (if is_in_range 0x20 0x7e unit then unit ∷ []
-    else codes "\\U" ++ two_digits (unit / 256) ++ two_digits (unit % 256))))))
 
 -- unchanged if the string is plain, else between quotes
 abbrev pub written_text : List ℕ → List ℕ

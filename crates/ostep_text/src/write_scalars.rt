@@ -3,10 +3,11 @@ ghost use Rattle.std.specs.Prelude.{◌≡◌, ◌++◌, nat_eq, codes, flat_map
 ghost use Rattle.std.specs.List.{starts_with};
 ghost use Rattle.std.specs.Char.{is_ascii_alphanumeric};
 ghost use Rattle.plist_value.specs.Texts.{units_of};
-ghost use Rattle.ostep_text.specs.Written.{are_alphanumeric, is_plain, quoted_unit};
+ghost use Rattle.plist_value.specs.Escapes.{quoted_unit};
+ghost use Rattle.ostep_text.specs.Written.{are_alphanumeric, is_plain};
 ghost use Rattle.ostep_text.specs.Written.{written_data, written_text};
 
-use plist_value::{TextRef, digits_of, put_digits};
+use plist_value::{TextRef, put_digits, put_quoted_unit};
 use std::alloc::AllocError;
 
 static BINARY: [u16; 6] = [0x62, 0x70, 0x6c, 0x69, 0x73, 0x74];
@@ -89,28 +90,4 @@ fn put_units(out: &mut Vec<u8>, text: &TextRef) -> Result<(), AllocError>
         put_quoted_unit(out, text.unit(i))?;
     }
     Ok(())
-}
-
-/// Appends a UTF-16 unit of a string to `out`, as it is written between quotes: unchanged if it is
-/// printable ASCII, and otherwise an escape.
-///
-/// # Errors
-///
-/// [`AllocError`] if out of memory.
-pub fn put_quoted_unit(out: &mut Vec<u8>, unit: u16) -> Result<(), AllocError>
-    ensures { OnOk result (out.new.items ≡ out.old.items ++ quoted_unit unit) }
-{
-    match unit {
-        0x22 => out.extend_from_slice(b"\\\""),
-        0x5c => out.extend_from_slice(b"\\\\"),
-        0x0a => out.extend_from_slice(b"\\n"),
-        0x09 => out.extend_from_slice(b"\\t"),
-        0x0d => out.extend_from_slice(b"\\r"),
-        0x20..=0x7e => Ok(out.push(unit as u8)?),
-        _ => {
-            out.extend_from_slice(b"\\U")?;
-            out.extend_from_slice(&digits_of((unit / 256) as u8))?;
-            out.extend_from_slice(&digits_of((unit % 256) as u8))
-        }
-    }
 }

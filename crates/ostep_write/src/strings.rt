@@ -1,19 +1,16 @@
 //! Writes strings.
 ghost use Rattle.std.specs.Prelude.{◌≡◌, ◌<◌, ◌≤◌, ◌++◌, [], ◌∷◌, length, take, drop};
 ghost use Rattle.std.specs.Prelude.{flat_map, IfOk};
-ghost use Rattle.std.specs.Bool.{OnTrue};
 ghost use Rattle.plist_value.specs.Texts.{units_of};
 ghost use Rattle.plist_write.specs.BufferedSink.{Emits, PutsPiece, sink_state};
-ghost use Rattle.ostep_text.specs.Written.{quoted_unit, written_text};
+ghost use Rattle.plist_value.specs.Escapes.{quoted_unit};
+ghost use Rattle.ostep_text.specs.Written.{written_text};
 
-use ostep_text::{is_plain, put_quoted_unit};
+use ostep_text::is_plain;
 use plist_devices::Sink;
-use plist_value::TextRef;
+use plist_value::{TextRef, literal_run, put_quoted_unit};
 use plist_write::{BufferedSink, WriteFault};
 use std::alloc::AllocError;
-
-// The maximum number of bytes that are appended at once.
-const RUN: usize = 4096;
 
 // Writes a string, without quotes if it is plain.
 //
@@ -61,35 +58,13 @@ fn put_some(out: &mut Vec<u8>, text: &TextRef, index: usize) -> Result<usize, Al
     ensures within { IfOk result (λ next. next ≤ length (units_of text.now)) }
 {
     if let Some(octets) = text.octets() {
-        let behind = &octets[index..];
-        let run = stretch_length(behind);
-        if run > 0 {
-            out.extend_from_slice(&behind[..run])?;
-            return Ok(index + run);
+        let run = literal_run(&octets[index..]);
+        if !run.is_empty() {
+            out.extend_from_slice(run)?;
+            return Ok(index + run.len());
         }
     }
     prove!(index < text.len());
     put_quoted_unit(out, text.unit(index))?;
     Ok(index + 1)
-}
-
-// Returns the number of leading bytes that need no escape, at most `RUN`.
-fn stretch_length(octets: &[u8]) -> usize
-    ensures within { result ≤ length octets.now }
-    ensures same { flat_map quoted_unit octets.now
-        ≡ take result octets.now ++ flat_map quoted_unit (drop result octets.now) }
-{
-    let most = octets.len().min(RUN);
-    let mut length = 0;
-    while length < most && needs_no_escape(octets[length]) {
-        length += 1;
-    }
-    length
-}
-
-// Returns whether the byte, as a unit, needs no escape between quotes.
-fn needs_no_escape(octet: u8) -> bool
-    ensures { OnTrue result (quoted_unit octet ≡ octet ∷ []) }
-{
-    matches!(octet, 0x20..=0x7e) && octet != b'"' && octet != b'\\'
 }

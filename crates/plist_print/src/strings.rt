@@ -3,13 +3,13 @@ ghost use Rattle.std.specs.Prelude.{◌≡◌, ◌+◌, ◌*◌, ◌<◌, ◌≤
 ghost use Rattle.std.specs.Prelude.{ℕ, List, codes};
 ghost use Rattle.std.specs.Prelude.{false, IsTrue, IfOk, OnOk, length, take, drop};
 ghost use Rattle.std.specs.Char.{encode_utf8};
+ghost use Rattle.std.specs.Int.{is_in_range};
 ghost use Rattle.plist_value.specs.Texts.{units_of};
-ghost use Rattle.plist_value.specs.Digits.{two_digits};
 ghost use Rattle.plist_write.specs.BufferedSink.{PutsPiece};
 ghost use Rattle.plist_print.specs.Units.{printed_text, printed_unit, printed_units};
 
 use crate::invisible::{visible_pair, visible_unit};
-use plist_value::{TextRef, digits_of};
+use plist_value::{TextRef, literal_run, put_quoted_unit};
 use std::alloc::AllocError;
 
 // Appends some of the units from position `index` on to `out`, and returns the position after
@@ -26,44 +26,12 @@ pub(crate) fn put_some(out: &mut Vec<u8>, text: &TextRef, index: usize) -> Resul
     let Some(octets) = text.octets() else {
         return put_unit(out, text, index);
     };
-    let behind = &octets[index..];
-    let run = plain_length(behind);
-    if run == 0 {
+    let run = literal_run(&octets[index..]);
+    if run.is_empty() {
         return put_unit(out, text, index);
     }
-    out.extend_from_slice(&behind[..run])?;
-    Ok(index + run)
-}
-
-// The maximum number of bytes that are appended at once.
-const RUN: usize = 4096;
-
-// Returns the number of leading bytes that need no escape, at most `RUN`.
-fn plain_length(octets: &[u8]) -> usize
-    ensures within { result ≤ length octets.now }
-    ensures same { printed_units octets.now
-        ≡ take result octets.now ++ printed_units (drop result octets.now) }
-{
-    let most = octets.len().min(RUN);
-    let mut length = 0;
-    while length < most && is_plain(octets[length]) {
-        length += 1;
-    }
-    length
-}
-
-// Returns whether the byte, as a unit, needs no escape.
-fn is_plain(octet: u8) -> bool
-    ensures { IsTrue result → (units : List ℕ)
-        → printed_units (octet ∷ units) ≡ octet ∷ printed_units units }
-{
-    if octet < 0x20 || octet > 0x7e {
-        return false;
-    }
-    if octet == b'"' || octet == b'\\' {
-        return false;
-    }
-    true
+    out.extend_from_slice(run)?;
+    Ok(index + run.len())
 }
 
 // Appends the unit at position `index` to `out`, together with the next if both are a visible
@@ -95,21 +63,16 @@ fn put_single(out: &mut Vec<u8>, unit: u16) -> Result<(), AllocError>
     ensures { OnOk result (out.new.items ≡ out.old.items ++ printed_unit unit) }
 {
     match unit {
-        0x22 => out.extend_from_slice(b"\\\""),
-        0x5c => out.extend_from_slice(b"\\\\"),
-        0x0a => out.extend_from_slice(b"\\n"),
-        0x09 => out.extend_from_slice(b"\\t"),
-        0x0d => out.extend_from_slice(b"\\r"),
+        0x22 | 0x5c | 0x0a | 0x09 | 0x0d => put_quoted_unit(out, unit),
         0x20..=0x7e => Ok(out.push(unit as u8)?),
         _ => put_other(out, unit),
     }
 }
 
-// Appends a unit that has no escape of one letter.
+// Appends a unit that is no printable ASCII character and has no escape of one letter.
 #[tactic(auto, unfolding(crate::specs::Units::printed_unit))]
 fn put_other(out: &mut Vec<u8>, unit: u16) -> Result<(), AllocError>
-    requires quote { (unit == 34) ≡ false }
-    requires backslash { (unit == 92) ≡ false }
+    requires printable { is_in_range 0x20 0x7e unit ≡ false }
     requires newline { (unit == 10) ≡ false }
     requires tab { (unit == 9) ≡ false }
     requires back { (unit == 13) ≡ false }
@@ -117,18 +80,8 @@ fn put_other(out: &mut Vec<u8>, unit: u16) -> Result<(), AllocError>
 {
     match visible_unit(unit) {
         Some(character) => put_character(out, character),
-        None => put_number(out, unit),
+        None => put_quoted_unit(out, unit),
     }
-}
-
-// Appends a unit as `\U` and four digits.
-fn put_number(out: &mut Vec<u8>, unit: u16) -> Result<(), AllocError>
-    ensures { OnOk result (out.new.items ≡ out.old.items
-        ++ (codes "\\U" ++ (two_digits (unit / 256) ++ two_digits (unit % 256)))) }
-{
-    out.extend_from_slice(b"\\U")?;
-    out.extend_from_slice(&digits_of((unit / 256) as u8))?;
-    out.extend_from_slice(&digits_of((unit % 256) as u8))
 }
 
 // Appends a character in UTF-8.

@@ -1,9 +1,9 @@
 -- Units that need no escape.
-use Rattle.std.proofs.Common.{◌≡◌, ℕ, zero, suc, ◌≤◌, true, List, [], ◌∷◌, ◌++◌, ◌*◌, ◌∙◌, inl, inr, length, take, drop, refl, ap, cond, arith, lit≤}
-use Rattle.std.specs.Prelude.{◌==◌, flat_map, take_while}
-use Rattle.std.proofs.lemmas.Bool.{cases_Bool, cond_both}
+use Rattle.std.proofs.Common.{◌≡◌, ℕ, zero, suc, true, List, [], ◌∷◌, ◌++◌, ◌∙◌, inl, inr, length, take, drop, refl, ap, cond, arith}
+use Rattle.std.specs.Prelude.{take_while}
+use Rattle.std.proofs.lemmas.Bool.{cases_Bool}
+use Rattle.std.proofs.lemmas.Bool.Decides.{nat_tests}
 use Rattle.std.proofs.lemmas.List.Sums.{take_while-cons}
-use Rattle.plist_value.specs.Digits.{two_digits}
 use Rattle.plist_value.specs.Escapes.{is_literal, literal_run, quoted_unit}
 
 -- text in which such units are as they are begins with a run of them
@@ -19,14 +19,5 @@ module _ (text : List ℕ → List ℕ) (same : (u : ℕ) (us : List ℕ) → is
   pub literal_run-begins : (us : List ℕ) → text us ≡ literal_run us ++ text (drop (length (literal_run us)) us)
   literal_run-begins us = begins 4096 us
 
-pub quoted-short : (u : ℕ) → length (quoted_unit u) ≤ 6
-quoted-short u =
-    let P : List ℕ → Type 0 = λ os. length os ≤ 6 in
-    cond_both (is_literal u) _ _ P (λ _. lit≤ tt) (λ _.
-    cond_both (u == 34) _ _ P (λ _. lit≤ tt) (λ _. cond_both (u == 92) _ _ P (λ _. lit≤ tt) (λ _.
-    cond_both (u == 10) _ _ P (λ _. lit≤ tt) (λ _. cond_both (u == 9) _ _ P (λ _. lit≤ tt) (λ _.
-    cond_both (u == 13) _ _ P (λ _. lit≤ tt) (λ _. lit≤ tt))))))
-
-pub digits-long : (xs : List ℕ) → length (flat_map two_digits xs) ≡ 2 * length xs
-digits-long [] = refl
-digits-long (x ∷ xs) = omega (arith, digits-long xs)
+pub literal-quoted : (u : ℕ) → is_literal u ≡ true → quoted_unit u ≡ u ∷ []
+literal-quoted u is = grind (arith, nat_tests, is)

@@ -1,7 +1,8 @@
 use Rattle.std.proofs.Common.{◌≡◌, sym, ap, ◌∙◌}
 use Rattle.std.specs.Prelude.{flat_map}
 use Rattle.plist_value.specs.Texts.{units_of}
-use Rattle.ostep_text.specs.Written.{quoted_unit, written_text}
+use Rattle.plist_value.specs.Escapes.{quoted_unit}
+use Rattle.ostep_text.specs.Written.{written_text}
 use Rattle.ostep_text.proofs.PlainText.{plain_text}
 use Rattle.ostep_text.proofs.write_scalars.put_text.Goals as goal
 

@@ -1,7 +1,7 @@
 use Rattle.std.proofs.Common.{◌≡◌, ◌++◌, drop}
 use Rattle.std.specs.Prelude.{flat_map}
 use Rattle.plist_value.specs.Texts.{units_of}
-use Rattle.ostep_text.specs.Written.{quoted_unit}
+use Rattle.plist_value.specs.Escapes.{quoted_unit}
 use Rattle.ostep_text.proofs.write_scalars.put_units.Given as goal
 
 -- the bytes so far, followed by the remaining units, are the whole string

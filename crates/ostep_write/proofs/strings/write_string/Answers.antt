@@ -3,7 +3,8 @@ use Rattle.std.specs.Prelude.{flat_map}
 use Rattle.plist_value.specs.Texts.{units_of}
 use Rattle.plist_write.proofs.Going.{Emits_same}
 use Rattle.plist_write.proofs.Steps.{refused, brackets_unopened, brackets_unfilled, brackets_closed}
-use Rattle.ostep_text.specs.Written.{quoted_unit, written_text}
+use Rattle.plist_value.specs.Escapes.{quoted_unit}
+use Rattle.ostep_text.specs.Written.{written_text}
 use Rattle.ostep_text.proofs.PlainText.{plain_text, quoted_text}
 use Rattle.ostep_write.proofs.strings.write_string.Goals as goal
 

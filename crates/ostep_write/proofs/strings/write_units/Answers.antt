@@ -7,7 +7,7 @@ use Rattle.plist_value.specs.Texts.{units_of}
 use Rattle.plist_write.specs.BufferedSink.{sink_state}
 use Rattle.plist_write.proofs.Going.{Emits_same}
 use Rattle.plist_write.proofs.Steps.{piece-split, piece-settled, piece-stops, no_piece, refused}
-use Rattle.ostep_text.specs.Written.{quoted_unit}
+use Rattle.plist_value.specs.Escapes.{quoted_unit}
 use Rattle.ostep_write.proofs.strings.write_units.Goals as goal
 
 -- each unit is written in some bytes

@@ -2,7 +2,7 @@ use Rattle.std.proofs.Common.{◌≡◌, ◌≤◌, ◌-◌, ℕ, List, ◌++◌
 use Rattle.std.specs.Prelude.{flat_map}
 use Rattle.plist_value.specs.Texts.{units_of}
 use Rattle.plist_write.specs.BufferedSink.{Emits, sink_state}
-use Rattle.ostep_text.specs.Written.{quoted_unit}
+use Rattle.plist_value.specs.Escapes.{quoted_unit}
 use Rattle.ostep_write.proofs.strings.write_units.Given as goal
 
 -- the written units and the remaining ones are all units
