@@ -13,7 +13,7 @@ use Rattle.plist_write.proofs.Counting.{count-kept, least_position-at, known-sti
 use Rattle.plist_write.specs.declared.plan.Plan.{Plan}
 use Rattle.plist_object.specs.References.{references_of}
 use Rattle.plist_write.proofs.Meeting.{seen-beside, list-apart, table-apart}
-use Rattle.plist_write.specs.Plan.{is_held, IsLike, IsReadyAt, Grows, Adds, WalksTree, WalksItems, BeginsContainer}
+use Rattle.plist_write.specs.Plan.{is_held, IsLike, IsReadyAt, Grows, Adds, WalksTree, WalksItems, AddsObject}
 use Rattle.plist_write.proofs.Flat.{flat, preorder-flat, positions-flat}
 
 -- the numbers that replaced the references, and the references after them
@@ -38,8 +38,7 @@ module _ (v : Plist) (container : IsContainer v) (part : List Plist) (tree : pre
 
   no_scalar : (q : Scalar) → least_position q all ≡ k → ⊥
   no_scalar q e =
-      let below = here.1 in
-      let at = least_position-at q all (omega arith) in
+      let at = least_position-at q all (omega (arith, here.1)) in
       let is : v ≡ scalar q = sym here.0 ∙ ap (value_at all) (sym e) ∙ at in
       subst IsContainer is container
 
@@ -49,13 +48,13 @@ module _ (v : Plist) (container : IsContainer v) (part : List Plist) (tree : pre
   found_is : found_in all k (v ∷ part) ≡ held_at (number_in all) k v ∷ found_in all (suc k) part
   found_is = rw (eq-eqb _ _ own) refl
 
-  below_ready : {S H : Type 0} → (f : List ℕ) (i : ℕ) (objects : List ℕ) (old mid : Plan S H) (number : ℕ) → ((s : Scalar) → is_held s (what_holds f i) ≡ false) → BeginsContainer i objects old mid number → IsReadyAt f all k old → IsReadyAt f all (suc k) mid
+  below_ready : {S H : Type 0} → (f : List ℕ) (i : ℕ) (objects : List ℕ) (old mid : Plan S H) (number : ℕ) → ((s : Scalar) → is_held s (what_holds f i) ≡ false) → AddsObject i objects old mid number → IsReadyAt f all k old → IsReadyAt f all (suc k) mid
   below_ready f i objects old mid number apart begins ready = record {
     known = λ q. seen-beside f i old mid begins.original_added q (apart q) ∙ ready.known q ∙ sym (known-still all k q (no_scalar q));
     counted = ap length begins.original_added ∙ length-append old.originals.items _ ∙ add-one _ ∙ ap suc ready.counted ∙ sym (count-kept all k v here.0 here.1 own);
   }
 
-  grown : {S H : Type 0} → (f : List ℕ) (i : ℕ) (objects numbers behind : List ℕ) (old mid done : Plan S H) (number : ℕ) → BeginsContainer i objects old mid number → Filled objects numbers behind old done → Grows f (length mid.references.items) mid done (found_in all (suc k) part) → IsLike f i (held_at (number_in all) k v) → references_of (held_at (number_in all) k v) ≡ numbers → Grows f 0 old done (found_in all k (v ∷ part))
+  grown : {S H : Type 0} → (f : List ℕ) (i : ℕ) (objects numbers behind : List ℕ) (old mid done : Plan S H) (number : ℕ) → AddsObject i objects old mid number → Filled objects numbers behind old done → Grows f (length mid.references.items) mid done (found_in all (suc k) part) → IsLike f i (held_at (number_in all) k v) → references_of (held_at (number_in all) k v) ≡ numbers → Grows f 0 old done (found_in all k (v ∷ part))
   grown f i objects numbers behind old mid done number begins filled g like refers =
       let front = length mid.references.items in
       let size : length (old.references.items ++ numbers) ≡ front = length-append old.references.items numbers ∙ ap (λ n. length old.references.items + n) filled.as_many ∙ sym (length-append old.references.items objects) ∙ ap length (sym begins.references_added) in
@@ -70,7 +69,7 @@ module _ (v : Plist) (container : IsContainer v) (part : List Plist) (tree : pre
         stand_for = (like, (g.references, (ap (λ rs. rs ++ behind) (sym refers) ∙ ap (λ rs. references_of (held_at (number_in all) k v) ++ rs) same, g.stand_for)));
       })
 
-pub Walks-container : {S H : Type 0} → (f : List ℕ) (v : Plist) → IsContainer v → (part : List Plist) → preorder v ≡ v ∷ part → (i : ℕ) (objects numbers behind : List ℕ) (old mid done : Plan S H) (number : ℕ) → ((s : Scalar) → is_held s (what_holds f i) ≡ false) → BeginsContainer i objects old mid number → Filled objects numbers behind old done → ((all : List Plist) (k : ℕ) → OccursAt all k part → IsReadyAt f all k mid → Adds f (length mid.references.items) all k part mid done) → ((all : List Plist) (k : ℕ) → OccursAt all (suc k) part → IsReadyAt f all (suc k) mid → IsLike f i (held_at (number_in all) k v) × (references_of (held_at (number_in all) k v) ≡ numbers)) → WalksTree f 0 v old done number
+pub Walks-container : {S H : Type 0} → (f : List ℕ) (v : Plist) → IsContainer v → (part : List Plist) → preorder v ≡ v ∷ part → (i : ℕ) (objects numbers behind : List ℕ) (old mid done : Plan S H) (number : ℕ) → ((s : Scalar) → is_held s (what_holds f i) ≡ false) → AddsObject i objects old mid number → Filled objects numbers behind old done → ((all : List Plist) (k : ℕ) → OccursAt all k part → IsReadyAt f all k mid → Adds f (length mid.references.items) all k part mid done) → ((all : List Plist) (k : ℕ) → OccursAt all (suc k) part → IsReadyAt f all (suc k) mid → IsLike f i (held_at (number_in all) k v) × (references_of (held_at (number_in all) k v) ≡ numbers)) → WalksTree f 0 v old done number
 Walks-container f v container part tree i objects numbers behind old mid done number apart begins filled adds holds = record {
   numbered = λ all k stands ready.
       let e : number ≡ number_in all k = begins.number_is ∙ ready.counted ∙ sym (number_is v container part tree all k stands) in
@@ -87,12 +86,12 @@ Walks-container f v container part tree i objects numbers behind old mid done nu
       });
 }
 
-pub Walks-list : {S H : Type 0} → (f : List ℕ) (vs : Items) (i : ℕ) (objects numbers behind : List ℕ) (old mid done : Plan S H) (number : ℕ) → Holds f i (holds_list objects) → BeginsContainer i objects old mid number → Filled objects numbers behind old done → WalksItems f (length mid.references.items) vs mid done numbers → WalksTree f 0 (list vs) old done number
+pub Walks-list : {S H : Type 0} → (f : List ℕ) (vs : Items) (i : ℕ) (objects numbers behind : List ℕ) (old mid done : Plan S H) (number : ℕ) → Holds f i (holds_list objects) → AddsObject i objects old mid number → Filled objects numbers behind old done → WalksItems f (length mid.references.items) vs mid done numbers → WalksTree f 0 (list vs) old done number
 Walks-list f vs i objects numbers behind old mid done number holds begins filled walks =
     Walks-container f (list vs) tt (preorder_items vs) refl i objects numbers behind old mid done number (list-apart f i objects holds) begins filled walks.adds
     (λ all k stands ready. let is = walks.numbered all (suc k) stands ready in ((objects, (holds, ap length (sym is) ∙ filled.as_many)), sym is))
 
-pub Walks-table : {S H : Type 0} → (f : List ℕ) (ps : Pairs) (i : ℕ) (keys values objects numbers behind : List ℕ) (old mid done : Plan S H) (number : ℕ) → Holds f i (holds_table keys values) → length (key_texts ps) ≡ length keys → BeginsContainer i objects old mid number → Filled objects numbers behind old done → WalksItems f (length mid.references.items) (flat ps) mid done numbers → WalksTree f 0 (table ps) old done number
+pub Walks-table : {S H : Type 0} → (f : List ℕ) (ps : Pairs) (i : ℕ) (keys values objects numbers behind : List ℕ) (old mid done : Plan S H) (number : ℕ) → Holds f i (holds_table keys values) → length (key_texts ps) ≡ length keys → AddsObject i objects old mid number → Filled objects numbers behind old done → WalksItems f (length mid.references.items) (flat ps) mid done numbers → WalksTree f 0 (table ps) old done number
 Walks-table f ps i keys values objects numbers behind old mid done number holds long begins filled walks =
     let same = preorder-flat ps in
     Walks-container f (table ps) tt (key_texts ps ++ preorder_values ps) refl i objects numbers behind old mid done number (table-apart f i keys values holds) begins filled

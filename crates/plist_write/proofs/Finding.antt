@@ -8,7 +8,6 @@ use Rattle.plist_write.specs.Tree.{preorder}
 use Rattle.plist_write.specs.Sharing.{first_position, kept_positions, value_at}
 use Rattle.plist_write.specs.Canonical.{file_of, objects_of, canon}
 use Rattle.plist_write.specs.Found.{number_in, found_in}
-use Rattle.plist_write.specs.Pieces.{CanSpellAll}
 use Rattle.plist_write.proofs.Binary.{canon-length}
 use Rattle.plist_write.proofs.Found.{spellable_all, octets-all}
 use Rattle.plist_write.proofs.Reading.{count_below-le}
@@ -18,7 +17,7 @@ use Rattle.plist_write.proofs.Trees.{length-preorder}
 use Rattle.plist_write.proofs.Widths.{least_width-holds}
 use Rattle.plist_write.specs.declared.plan.CanonicalObjects.{CanonicalObjects}
 use Rattle.plist_write.specs.Plan.{AreObjectsOf}
-use Rattle.plist_write.specs.Renumbering.{helds_of, AreSound, octets_for}
+use Rattle.plist_write.specs.Renumbering.{helds_of, planned, CanSend}
 use Rattle.plist_write.proofs.Renumbered.{helds-are, sound-are, length-helds}
 
 module _ (f : List ℕ) (v : Plist) (binary : IsBinary f v) (objects : CanonicalObjects) (found : AreObjectsOf f v objects) where
@@ -34,35 +33,24 @@ module _ (f : List ℕ) (v : Plist) (binary : IsBinary f v) (objects : Canonical
   below : (k : ℕ) → number_in (preorder v) k < 256 ^ least_width (length (kept_positions (preorder v)))
   below k =
       let all = preorder v in
-      let most = few in
-      let holds = least_width-holds (length (kept_positions all)) (omega arith) in
-      let under = count_below-le (first_position all k (value_at all k)) (kept_positions all) in
-      omega arith
+      let holds = least_width-holds (length (kept_positions all)) (omega (arith, few)) in
+      omega (arith, count_below-le (first_position all k (value_at all k)) (kept_positions all), few)
 
-  pub few-objects : length objects.originals.items < 2 ^ 32
-  few-objects = let most = few in let size = long in omega arith
-
-  pub sound-objects : AreSound f objects.originals.items objects.references.items
-  sound-objects = sound-are f objects.originals.items objects.references.items (found_in (preorder v) 0 (preorder v)) found.stand_for
-
-  pub spellable-objects : CanSpellAll (least_width (length objects.originals.items)) (helds_of f objects.originals.items objects.references.items)
-  spellable-objects =
-      let all = preorder v in
-      let sound = EachSound-tree v (sound_from_Fits v binary.valid binary.fits) in
-      rw (long, helds) (spellable_all all (number_in all) (least_width (length (kept_positions all))) below 0 all sound)
-
-  pub are-objects : octets_for (least_width (length objects.originals.items)) f objects.originals.items objects.references.items ≡ objects_of (preorder v)
+  pub are-objects : planned f objects ≡ objects_of (preorder v)
   are-objects =
       rw (long, helds) (octets-all (number_in (preorder v)) (least_width (length (kept_positions (preorder v)))) (kept_positions (preorder v)))
 
-  pub is-canon : file_of (octets_for (least_width (length objects.originals.items)) f objects.originals.items objects.references.items) ≡ canon v
+  pub is-canon : file_of (planned f objects) ≡ canon v
   unfolding canon
   is-canon = ap file_of are-objects
 
-  pub short-objects : length (file_of (octets_for (least_width (length objects.originals.items)) f objects.originals.items objects.references.items)) < 2 ^ 64
-  short-objects =
-      let size = canon-length v binary.valid binary.fits in
-      let n = binary.fits.nodes_fit in
-      let p = binary.fits.payload_fits in
-      let same = ap length is-canon in
-      omega arith
+  pub can-send : CanSend f objects
+  can-send =
+      let all = preorder v in
+      let sound = EachSound-tree v (sound_from_Fits v binary.valid binary.fits) in
+      record {
+        few = omega (arith, long, few);
+        sound = sound-are f objects.originals.items objects.references.items (found_in all 0 all) found.stand_for;
+        spellable = rw (long, helds) (spellable_all all (number_in all) (least_width (length (kept_positions all))) below 0 all sound);
+        short = omega (arith, long, few, canon-length v binary.valid binary.fits, binary.fits.nodes_fit, binary.fits.payload_fits, ap length is-canon);
+      }

@@ -2,34 +2,27 @@
 use Rattle.std.proofs.Common.{◌≡◌, ◌⊎◌, ℕ, ◌≤◌, false, List, [], ◌∷◌, ◌++◌, length, Some, None, refl, sym, ap, subst, ◌∙◌, inl, inr, arith}
 use Rattle.std.proofs.lemmas.Bool.{cases_eq, cases_Bool}
 use Rattle.std.proofs.lemmas.List.{append-nil}
-use Rattle.plist_value.specs.Plist.{Scalar, Plist, scalar, list, table, IsScalar, IsPlist}
+use Rattle.plist_value.specs.Plist.{Scalar, Plist, scalar, IsScalar, IsPlist}
 use Rattle.plist_value.specs.Equality.{scalar_eq}
 use Rattle.plist_value.specs.EqualityLaws.{scalar_eq-Decides}
 use Rattle.plist_value.specs.Scalars.{content_of}
 use Rattle.plist_value.specs.declared.scalar_ref.ScalarRef.{ScalarRef}
-use Rattle.plist_object.specs.Objects.{holds_scalar, holds_list, holds_table}
+use Rattle.plist_object.specs.Objects.{holds_scalar}
 use Rattle.plist_object.specs.Layout.{trailer_of}
 use Rattle.plist_object.specs.Places.{Holds, what_holds, object_at, octets_at, place_of}
 use Rattle.plist_object.specs.Spelled.{Spells, SpellsWithin}
-use Rattle.plist_object.proofs.Uniqueness.{same_held}
 use Rattle.plist_write.specs.declared.plan.Plan.{Plan}
 use Rattle.plist_write.specs.declared.scalar_numbers.ScalarNumbers.{ScalarNumbers}
 use Rattle.plist_write.specs.ScalarNumbers.{AreNew, AreNumbered, EntersScalar, number_stored}
 use Rattle.plist_write.specs.ObjectNumbers.{no_number, unique, kept, IsNumber, IsNumberAt, IsAlone, IsUnique, KeepsNumber, FindsUnique}
-use Rattle.plist_write.specs.Plan.{is_held, number_from, number_seen, IsRemembered, IsSeen, IsUnseen, KnowsScalars, MeetsScalar, IsWalked, BeginsContainer}
+use Rattle.plist_write.specs.Plan.{is_held, number_from, number_seen, IsRemembered, IsSeen, IsUnseen, KnowsScalars, MeetsScalar, IsWalked, AddsObject}
 use Rattle.plist_write.proofs.Meeting.{cases_Option, seen-added, seen-beside, seen-now, seen-still}
 use Rattle.plist_write.proofs.Storing.{entered-had, entered-unknown, entered-added}
 use Rattle.plist_write.proofs.Walking.{Walks-known}
+use Rattle.plist_write.proofs.Within.{scalar_seen}
 
 pub valid_at : (f : List ℕ) (i : ℕ) (s : Scalar) (v : Plist) → IsPlist v → Spells f i v → Holds f i (holds_scalar s) → IsScalar s
-valid_at f i s (scalar t) valid spells holds =
-    let held = same_held f i (holds_scalar t) (holds_scalar s) spells holds in
-    let same : t ≡ s = cc in
-    subst IsScalar same valid
-valid_at f i s (list vs) valid spells holds =
-    absurd (let held = same_held f i (holds_list spells.0) (holds_scalar s) spells.1.0 holds in cc)
-valid_at f i s (table ps) valid spells holds =
-    absurd (let held = same_held f i (holds_table spells.0 spells.1.0) (holds_scalar s) spells.1.1.1.0 holds in cc)
+valid_at f i s v valid spells holds = subst IsPlist (sym (scalar_seen f i s v holds spells)) valid
 
 -- objects at one offset have the same content
 same-at-place : (f : List ℕ) (i j : ℕ) → place_of f i ≡ place_of f j → what_holds f j ≡ what_holds f i
@@ -118,7 +111,7 @@ knows-same f old new same_originals same_scalars same_memo was =
     knows-as f old new (λ s. ap (λ originals. number_from f 0 originals.items s) same_originals) same_scalars same_memo was
 
 -- a plan with one more container
-pub knows-begun : {S H : Type 0} → (f : List ℕ) (i : ℕ) (refs : List ℕ) (old new : Plan S H) (n : ℕ) → ((s : Scalar) → is_held s (what_holds f i) ≡ false) → BeginsContainer i refs old new n → KnowsScalars f old → KnowsScalars f new
+pub knows-begun : {S H : Type 0} → (f : List ℕ) (i : ℕ) (refs : List ℕ) (old new : Plan S H) (n : ℕ) → ((s : Scalar) → is_held s (what_holds f i) ≡ false) → AddsObject i refs old new n → KnowsScalars f old → KnowsScalars f new
 knows-begun f i refs old new n apart begins was =
     knows-as f old new (λ s. seen-beside f i old new begins.original_added s (apart s)) begins.scalars_kept begins.memo_kept was
 

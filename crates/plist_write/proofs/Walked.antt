@@ -9,7 +9,7 @@ use Rattle.plist_object.proofs.Uniqueness.{same_items}
 use Rattle.plist_write.specs.Tree.{preorder}
 use Rattle.plist_write.specs.declared.plan.Plan.{Plan}
 use Rattle.plist_write.specs.Spelling.{SpellTable, sorted_references}
-use Rattle.plist_write.specs.Plan.{WalksItems, BeginsContainer, IsUnseen, NumbersScalar, IsWalked, ItemsWalked, AreWalked}
+use Rattle.plist_write.specs.Plan.{WalksItems, AddsObject, IsUnseen, NumbersScalar, IsWalked, ItemsWalked, AreWalked}
 use Rattle.plist_write.proofs.Walking.{Walks-none, Walks-item, Walks-lift}
 use Rattle.plist_write.proofs.Containers.{Filled, Walks-list, Walks-table}
 use Rattle.plist_write.proofs.Flat.{flat, spell-flat, valid-flat, length-keys}
@@ -24,7 +24,7 @@ walked-scalar f i s old new number unseen valid numbers = record {
   references_added = numbers.references_kept ∙ sym (append-nil _);
 }
 
-module _ {S H : Type 0} (f : List ℕ) (i : ℕ) (objects : List ℕ) (old mid done : Plan S H) (number first : ℕ) (at_end : first ≡ length old.references.items) (begins : BeginsContainer i objects old mid number) (walked : AreWalked f first mid done) where
+module _ {S H : Type 0} (f : List ℕ) (i : ℕ) (objects : List ℕ) (old mid done : Plan S H) (number first : ℕ) (at_end : first ≡ length old.references.items) (begins : AddsObject i objects old mid number) (walked : AreWalked f first mid done) where
   pub objects-begun : drop first mid.references.items ≡ objects
   objects-begun =
       ap (drop first) begins.references_added ∙ drop_at old.references.items objects first (sym at_end)
@@ -47,7 +47,7 @@ module _ {S H : Type 0} (f : List ℕ) (i : ℕ) (objects : List ℕ) (old mid d
         references_added = filled.filled;
       }
 
-pub walked-table : {S H : Type 0} → (f : List ℕ) (i : ℕ) (keys values : List ℕ) (rows : List (ℕ × ℕ)) (ps : Pairs) (old mid done : Plan S H) (number first : ℕ) → length keys ≡ length values → SpellTable f keys values rows ps → first ≡ length old.references.items → BeginsContainer i (sorted_references rows) old mid number → AreWalked f first mid done → Holds f i (holds_table keys values) → IsWalked f i old done number
+pub walked-table : {S H : Type 0} → (f : List ℕ) (i : ℕ) (keys values : List ℕ) (rows : List (ℕ × ℕ)) (ps : Pairs) (old mid done : Plan S H) (number first : ℕ) → length keys ≡ length values → SpellTable f keys values rows ps → first ≡ length old.references.items → AddsObject i (sorted_references rows) old mid number → AreWalked f first mid done → Holds f i (holds_table keys values) → IsWalked f i old done number
 walked-table f i keys values rows ps old mid done number first as_many spell at_end begins walked holds =
     let objects = sorted_references rows in
     let children = walked.walked in

@@ -137,7 +137,7 @@ Walks-known f s old new n seen same_originals same_references = record {
 }
 
 -- a new scalar, which is added last
-pub Walks-new : {S H : Type 0} → (f : List ℕ) (s : Scalar) (i : ℕ) (old new : Plan S H) (n : ℕ) → Holds f i (holds_scalar s) → number_seen f old s ≡ None → n ≡ length old.originals.items → new.originals.items ≡ old.originals.items ++ (i ∷ []) → new.references ≡ old.references → WalksScalar f 0 s old new n
+pub Walks-new : {S H : Type 0} → (f : List ℕ) (s : Scalar) (i : ℕ) (old new : Plan S H) (n : ℕ) → Holds f i (holds_scalar s) → number_seen f old s ≡ None → n ≡ length old.originals.items → new.originals.items ≡ old.originals.items ++ (i ∷ []) → new.references.items ≡ old.references.items → WalksScalar f 0 s old new n
 Walks-new f s i old new n holds unknown last added same_references =
     let long : length new.originals.items ≡ suc (length old.originals.items) = ap length added ∙ length-append old.originals.items (i ∷ []) ∙ add-one _ in
     record {

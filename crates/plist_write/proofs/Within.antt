@@ -2,7 +2,7 @@
 use Rattle.std.proofs.Common.{◌≡◌, ℕ, zero, suc, ◌-◌, ◌<◌, ◌≤◌, List, [], ◌∷◌, length, get_or, refl, ap, subst, arith}
 use Rattle.std.specs.List.{zip}
 use Rattle.std.specs.List.Sorted.{IsPermutation}
-use Rattle.plist_value.specs.Plist.{Scalar, text, Plist, scalar, list, table, Items, no_items, item, Pairs, IsPlist, AreItems}
+use Rattle.plist_value.specs.Plist.{Scalar, Plist, scalar, list, table, Items, no_items, item, Pairs, IsPlist, AreItems}
 use Rattle.plist_value.specs.Limits.{depth, depth_of_items}
 use Rattle.plist_object.specs.Objects.{holds_scalar, holds_list, holds_table}
 use Rattle.plist_object.specs.Places.{Holds}
@@ -76,11 +76,6 @@ table_seen f keys values i (table ps) holds valid spells =
         valid = valid;
       };
     }
-
--- an object contains only one string
-pub text_seen : (f : List ℕ) (i : ℕ) (units others : List ℕ) → Holds f i (holds_scalar (text units)) → Holds f i (holds_scalar (text others)) → units ≡ others
-text_seen f i units others holds held =
-    let same = same_held f i (holds_scalar (text units)) (holds_scalar (text others)) holds held in cc
 
 pub items_within : (f : List ℕ) (i levels : ℕ) (objects : List ℕ) → SpellsWithin f i levels → Holds f i (holds_list objects) → SpellWithin f objects (levels - 1)
 items_within f i levels objects h holds =

@@ -9,7 +9,9 @@ use Rattle.plist_object.specs.Objects.{Content, holds_scalar, holds_list, holds_
 use Rattle.plist_object.specs.Layout.{trailer_of}
 use Rattle.plist_object.specs.Places.{Holds, what_holds}
 use Rattle.plist_object.specs.declared.object.ObjectFault.{ObjectFault}
+use Rattle.plist_keys.specs.KeyOrder.{IsReady}
 use Rattle.plist_object.specs.References.{references_of}
+use Rattle.plist_keys.specs.declared.order.KeyOrder.{KeyOrder}
 use Rattle.plist_object.specs.Spelled.{Spells, SpellItems}
 use Rattle.plist_write.specs.Tree.{preorder, preorder_items, item_positions}
 use Rattle.plist_write.specs.Sharing.{kept_positions, count_below}
@@ -113,7 +115,7 @@ WalksItems f front vs = Walks f front (preorder_items vs) (λ k. item_positions 
 
 -- One object was added, with this number and these references, which are still those of the input
 -- file.
-pub record BeginsContainer {S H : Type 0} (i : ℕ) (refs : List ℕ) (old new : Plan S H)
+pub record AddsObject {S H : Type 0} (i : ℕ) (refs : List ℕ) (old new : Plan S H)
     (number : ℕ) : Type 0 where
   pub number_is : number ≡ length old.originals.items
   pub scalars_kept : new.scalars ≡ old.scalars
@@ -148,6 +150,11 @@ pub record KnowsScalars {S H : Type 0} (f : List ℕ) (plan : Plan S H) : Type 0
   pub stored : (r : ScalarRef) (n : ℕ) → number_stored plan.scalars r ≡ Some n
       → number_seen f plan (content_of r) ≡ Some n
   pub seen : (s : Scalar) (n : ℕ) → number_seen f plan s ≡ Some n → IsSeen f plan s n
+
+-- what the walk knows after each object: the visited scalars, and what is kept of key orders
+pub record Knows {S H : Type 0} (f : List ℕ) (plan : Plan S H) (order : KeyOrder) : Type 0 where
+  pub scalars : KnowsScalars f plan
+  pub ready : IsReady f order
 
 -- the object contains the scalar, and was not visited
 pub record IsUnseen {S H : Type 0} (f : List ℕ) (i : ℕ) (s : Scalar)

@@ -1,11 +1,14 @@
 -- The content of the objects of the canonical file, given by objects of another file and a list of
 -- references.
 use Rattle.std.specs.Prelude.{ℕ, ◌+◌, ◌≤◌, List, [], ◌∷◌, length, map, take, drop, Result, Ok, Err}
-use Rattle.std.specs.Prelude.{⊤}
+use Rattle.std.specs.Prelude.{⊤, ◌<◌, ◌^◌}
 use Rattle.plist_object.specs.declared.object.ObjectFault.{ObjectFault}
 use Rattle.plist_object.specs.Objects.{Content, holds_scalar, holds_list, holds_table}
 use Rattle.plist_object.specs.Places.{what_holds}
 use Rattle.plist_object.specs.Shortest.{spelling_of}
+use Rattle.plist_object.specs.Spelling.{least_width}
+use Rattle.plist_write.specs.Canonical.{file_of}
+use Rattle.plist_write.specs.Pieces.{CanSpellAll}
 use Rattle.plist_write.specs.Spelling.{IsRead}
 use Rattle.plist_write.specs.declared.plan.CanonicalObjects.{CanonicalObjects}
 
@@ -51,3 +54,19 @@ octets_for width f originals refs = map (spelling_of width) (helds_of f original
 -- the bytes of each planned object
 abbrev pub octets_planned : ℕ → List ℕ → CanonicalObjects → List (List ℕ)
 octets_planned width f objects = octets_for width f objects.originals.items objects.references.items
+
+-- the width of references to the planned objects
+abbrev pub width_for : CanonicalObjects → ℕ
+width_for objects = least_width (length objects.originals.items)
+
+-- the bytes of each planned object in the canonical file
+abbrev pub planned : List ℕ → CanonicalObjects → List (List ℕ)
+planned f objects = octets_planned (width_for objects) f objects
+
+-- the planned objects can be written, and so can a file of them
+pub record CanSend (f : List ℕ) (objects : CanonicalObjects) : Type 0 where
+  pub few : length objects.originals.items < 2 ^ 32
+  pub sound : AreSound f objects.originals.items objects.references.items
+  pub spellable : CanSpellAll (width_for objects)
+      (helds_of f objects.originals.items objects.references.items)
+  pub short : length (file_of (planned f objects)) < 2 ^ 64

@@ -1,11 +1,9 @@
 //! Writes the text of a binary file's value to a sink, in any notation.
 ghost use Rattle.std.specs.Prelude.{◌≡◌, ◌<◌, ◌+◌, ◌-◌, ℕ, List, [], OnOk};
-ghost use Rattle.plist_value.specs.Plist.{Plist, Items, Pairs, list, table, text};
+ghost use Rattle.plist_value.specs.Plist.{Plist, Items, Pairs, list, table};
 ghost use Rattle.plist_value.specs.Plist.{IsPlist, AreItems, ArePairs};
 ghost use Rattle.plist_value.specs.declared.TheConstants.{MAX_DEPTH};
-ghost use Rattle.plist_object.specs.Objects.{holds_scalar};
 ghost use Rattle.plist_keys.specs.KeyOrder.{IsReady};
-ghost use Rattle.plist_object.specs.Places.{Holds, HoldsText};
 ghost use Rattle.plist_object.specs.Spelled.{IsBinary, Spells, SpellItems, SpellPairs};
 ghost use Rattle.plist_object.specs.Spelled.{SpellsWithin};
 ghost use Rattle.plist_object.specs.Views.{numbers_of, octets_of};
@@ -13,16 +11,16 @@ ghost use Rattle.plist_write.specs.BufferedSink.{Emits, sink_state};
 ghost use Rattle.plist_write.specs.Sending.{IsWritten};
 ghost use Rattle.plist_write.specs.Spelling.{PairsWithin, SpellTable, SpellWithin, TableWithin};
 ghost use Rattle.plist_write.specs.Spelling.{sorted_references};
-ghost use Rattle.plist_write.specs.Notation.{item_in, items_in, last_line, pair_in, pairs_in};
+ghost use Rattle.plist_write.specs.Notation.{items_in, last_line, pairs_in};
 ghost use Rattle.plist_write.specs.Notation.{text_in, document_in};
 
 use crate::notation::{Mark, Notation};
-use crate::objects::object_of;
-use crate::order::sorted_references;
+use crate::objects::{Source, TableRefs, object_of};
+use crate::order::push_sorted;
 use crate::{BufferedSink, WriteFault};
 use plist_devices::Sink;
 use plist_keys::{JudgedFile, KeyOrder, text_of};
-use plist_object::{BinFile, Object, Refs};
+use plist_object::{Object, Refs};
 use std::alloc::Global;
 
 /// Writes the text of the file's value, object by object, and returns its length in bytes. Neither
@@ -74,8 +72,8 @@ fn write_whole<W: Sink, N: Notation<W>>(
         mut order,
         ..
     } = judged;
-    let writer = Writer { alloc, file };
-    writer.value::<W, N>(&mut order, file.top(), 0, out)?;
+    let source = Source { alloc, file };
+    source.write_value::<W, N>(&mut order, file.top(), 0, out)?;
     N::write_mark(Mark::TextEnd, out)?;
     out.flush()
 }
@@ -93,17 +91,11 @@ fn end_lines<W: Sink, N: Notation<W>>(
     N::write_mark(close, out)
 }
 
-#[derive(Clone, Copy)]
-struct Writer<'a> {
-    alloc: Global,
-    file: BinFile<'a>,
-}
-
-impl<'a> Writer<'a> {
+impl<'a> Source<'a> {
     // Writes the value of the object. What precedes it on its line is written already, and `level`
     // is the level of that line.
     #[cycle(write)]
-    fn value<W: Sink, N: Notation<W>>(
+    fn write_value<W: Sink, N: Notation<W>>(
         &self,
         order: &mut KeyOrder<'a>,
         object: u64,
@@ -119,14 +111,16 @@ impl<'a> Writer<'a> {
     {
         match object_of(&self.file, object) {
             Object::Scalar(scalar) => N::write_scalar(&scalar, level, out),
-            Object::List(items) => self.list::<W, N>(order, &items, level, out),
-            Object::Table(keys, values) => self.table::<W, N>(order, &keys, &values, level, out),
+            Object::List(items) => self.write_list::<W, N>(order, &items, level, out),
+            Object::Table(keys, values) => {
+                self.write_table::<W, N>(order, &TableRefs { keys, values }, level, out)
+            }
         }
     }
 
     // Writes the array of the items that the references point to.
     #[cycle(write)]
-    fn list<W: Sink, N: Notation<W>>(
+    fn write_list<W: Sink, N: Notation<W>>(
         &self,
         order: &mut KeyOrder<'a>,
         items: &Refs,
@@ -147,13 +141,13 @@ impl<'a> Writer<'a> {
             return N::write_mark(Mark::EmptyList, out);
         }
         N::write_mark(Mark::ListStart, out)?;
-        self.items::<W, N>(order, items, level + 1, out)?;
+        self.write_items::<W, N>(order, items, level + 1, out)?;
         end_lines::<W, N>(level, Mark::ListEnd, out)
     }
 
-    // Writes the items that the references point to.
+    // Writes the items that the references point to, with what precedes and follows each.
     #[cycle(write)]
-    fn items<W: Sink, N: Notation<W>>(
+    fn write_items<W: Sink, N: Notation<W>>(
         &self,
         order: &mut KeyOrder<'a>,
         items: &Refs,
@@ -170,65 +164,47 @@ impl<'a> Writer<'a> {
         ensures ready { OnOk result (IsReady (octets_of self.now.file) order.new) }
     {
         for i in 0..items.len() {
-            self.item::<W, N>(order, items.get(i), level, out)?;
+            N::begin_line(level, out)?;
+            self.write_value::<W, N>(order, items.get(i), level, out)?;
+            N::write_mark(Mark::ItemEnd, out)?;
         }
         Ok(())
     }
 
-    // Writes an item, with what precedes and follows it.
-    #[cycle(write)]
-    fn item<W: Sink, N: Notation<W>>(
-        &self,
-        order: &mut KeyOrder<'a>,
-        object: u64,
-        level: u64,
-        out: &mut BufferedSink<W>,
-    ) -> Result<(), WriteFault>
-        requires spells { SpellsWithin (octets_of self.now.file) object (MAX_DEPTH - level) }
-        requires ready { IsReady (octets_of self.now.file) order.old }
-        ensures emits { (v : Plist) → IsPlist v → Spells (octets_of self.now.file) object v
-            → Emits (item_in N.parts level v)
-            (sink_state W.Sink out.old) (sink_state W.Sink out.new) result }
-        ensures ready { OnOk result (IsReady (octets_of self.now.file) order.new) }
-    {
-        N::begin_line(level, out)?;
-        self.value::<W, N>(order, object, level, out)?;
-        N::write_mark(Mark::ItemEnd, out)
-    }
-
     // Writes the dictionary of the keys and values that the references point to.
     #[cycle(write)]
-    fn table<W: Sink, N: Notation<W>>(
+    fn write_table<W: Sink, N: Notation<W>>(
         &self,
         order: &mut KeyOrder<'a>,
-        keys: &Refs<'a>,
-        values: &Refs,
+        refs: &TableRefs<'a>,
         level: u64,
         out: &mut BufferedSink<W>,
     ) -> Result<(), WriteFault>
         requires below { level < MAX_DEPTH }
-        requires spell { TableWithin (octets_of self.now.file) (numbers_of keys.now)
-            (numbers_of values.now) (MAX_DEPTH - (level + 1)) }
+        requires spell { TableWithin (octets_of self.now.file) (numbers_of refs.now.keys)
+            (numbers_of refs.now.values) (MAX_DEPTH - (level + 1)) }
         requires ready { IsReady (octets_of self.now.file) order.old }
         ensures emits { (rows : List (ℕ × ℕ)) (ps : Pairs)
-            → SpellTable (octets_of self.now.file) (numbers_of keys.now) (numbers_of values.now)
-            rows ps
+            → SpellTable (octets_of self.now.file)
+            (numbers_of refs.now.keys) (numbers_of refs.now.values) rows ps
             → Emits (text_in N.parts level (table ps))
             (sink_state W.Sink out.old) (sink_state W.Sink out.new) result }
         ensures ready { OnOk result (IsReady (octets_of self.now.file) order.new) }
     {
-        if keys.is_empty() {
+        if refs.keys.is_empty() {
             return N::write_mark(Mark::EmptyTable, out);
         }
-        let references = out.grown(sorted_references(self.alloc, &self.file, order, keys, values))?;
+        let mut references = Vec::new(self.alloc);
+        out.grown(push_sorted(self, order, refs, &mut references))?;
         N::write_mark(Mark::TableStart, out)?;
-        self.pairs::<W, N>(order, &references, level + 1, out)?;
+        self.write_pairs::<W, N>(order, &references, level + 1, out)?;
         end_lines::<W, N>(level, Mark::TableEnd, out)
     }
 
-    // Writes the pairs. The references point to the keys, and then to the values.
+    // Writes the pairs, with what follows each. The references point to the keys, and then to the
+    // values.
     #[cycle(write)]
-    fn pairs<W: Sink, N: Notation<W>>(
+    fn write_pairs<W: Sink, N: Notation<W>>(
         &self,
         order: &mut KeyOrder<'a>,
         references: &[u32],
@@ -247,33 +223,10 @@ impl<'a> Writer<'a> {
         for i in 0..count {
             let key = u64::from(references[i]);
             let object = u64::from(references[count + i]);
-            self.pair::<W, N>(order, key, object, level, out)?;
+            N::begin_pair(&text_of(&self.file, key), level, out)?;
+            self.write_value::<W, N>(order, object, level, out)?;
+            N::write_mark(Mark::PairEnd, out)?;
         }
         Ok(())
-    }
-
-    // Writes a key and its value, with what follows them.
-    #[cycle(write)]
-    fn pair<W: Sink, N: Notation<W>>(
-        &self,
-        order: &mut KeyOrder<'a>,
-        key: u64,
-        object: u64,
-        level: u64,
-        out: &mut BufferedSink<W>,
-    ) -> Result<(), WriteFault>
-        requires key { HoldsText (octets_of self.now.file) key }
-        requires spells { SpellsWithin (octets_of self.now.file) object (MAX_DEPTH - level) }
-        requires ready { IsReady (octets_of self.now.file) order.old }
-        ensures emits { (units : List ℕ) (v : Plist)
-            → Holds (octets_of self.now.file) key (holds_scalar (text units))
-            → IsPlist v → Spells (octets_of self.now.file) object v
-            → Emits (pair_in N.parts level units v)
-            (sink_state W.Sink out.old) (sink_state W.Sink out.new) result }
-        ensures ready { OnOk result (IsReady (octets_of self.now.file) order.new) }
-    {
-        N::begin_pair(&text_of(&self.file, key), level, out)?;
-        self.value::<W, N>(order, object, level, out)?;
-        N::write_mark(Mark::PairEnd, out)
     }
 }

@@ -1,66 +1,38 @@
 //! Appends the references of containers.
-ghost use Rattle.std.specs.Prelude.{◌≡◌, ◌++◌, ◌<◌, ℕ, List, All, IfOk, OnOk, length, map};
+ghost use Rattle.std.specs.Prelude.{◌≡◌, ◌++◌, ◌<◌, ℕ, List, All, OnOk, length, map};
 ghost use Rattle.std.specs.Prelude.{slice_index};
 ghost use Rattle.plist_value.specs.Plist.{Pairs};
 ghost use Rattle.plist_object.specs.Views.{numbers_of, octets_of};
 ghost use Rattle.plist_keys.specs.KeyOrder.{IsReady};
 ghost use Rattle.plist_write.specs.Spelling.{IsTableOf, SpellTable, sorted_references};
 
+use crate::objects::{Source, TableRefs};
 use plist_keys::KeyOrder;
-use plist_object::{BinFile, Refs, to_u32};
-use std::alloc::{AllocError, Global};
+use plist_object::{Refs, to_u32};
+use std::alloc::AllocError;
 
 // Appends the references to a dictionary's keys, in ascending order of the keys, and then the
 // references to its values in the same order.
-//
-// # Errors
-//
-// [`AllocError`] if out of memory.
 pub(crate) fn push_sorted<'a>(
-    alloc: Global,
-    file: &BinFile<'a>,
+    source: &Source<'a>,
     order: &mut KeyOrder<'a>,
-    keys: &Refs<'a>,
-    values: &Refs,
+    table: &TableRefs<'a>,
     references: &mut Vec<u32>,
 ) -> Result<(), AllocError>
-    requires table { IsTableOf (octets_of file.now) (numbers_of keys.now) (numbers_of values.now) }
-    requires ready { IsReady (octets_of file.now) order.old }
+    requires table { IsTableOf (octets_of source.now.file)
+        (numbers_of table.now.keys) (numbers_of table.now.values) }
+    requires ready { IsReady (octets_of source.now.file) order.old }
     ensures pushed { OnOk result ((rows : List (ℕ × ℕ)) (ps : Pairs)
-        → SpellTable (octets_of file.now) (numbers_of keys.now) (numbers_of values.now) rows ps
+        → SpellTable (octets_of source.now.file)
+        (numbers_of table.now.keys) (numbers_of table.now.values) rows ps
         → references.new.items ≡ references.old.items ++ sorted_references rows) }
-    ensures ready { OnOk result (IsReady (octets_of file.now) order.new) }
+    ensures ready { IsReady (octets_of source.now.file) order.new }
 {
-    order.sort(alloc, file, keys)?;
-    push_at(keys, order.indices(), &mut *references)?;
-    push_at(values, order.indices(), references)?;
+    references.reserve(table.keys.len().saturating_mul(2) as usize)?;
+    order.sort(source.alloc, &source.file, &table.keys)?;
+    push_at(&table.keys, order.indices(), &mut *references)?;
+    push_at(&table.values, order.indices(), references)?;
     Ok(())
-}
-
-/// Returns the references to a dictionary's keys, in ascending order of the keys, and then the
-/// references to its values in the same order.
-///
-/// # Errors
-///
-/// [`AllocError`] if out of memory.
-pub fn sorted_references<'a>(
-    alloc: Global,
-    file: &BinFile<'a>,
-    order: &mut KeyOrder<'a>,
-    keys: &Refs<'a>,
-    values: &Refs,
-) -> Result<Vec<u32>, AllocError>
-    requires table { IsTableOf (octets_of file.now) (numbers_of keys.now) (numbers_of values.now) }
-    requires ready { IsReady (octets_of file.now) order.old }
-    ensures turn { IfOk result (λ references. (rows : List (ℕ × ℕ)) (ps : Pairs)
-        → SpellTable (octets_of file.now) (numbers_of keys.now) (numbers_of values.now) rows ps
-        → references.items ≡ sorted_references rows) }
-    ensures ready { OnOk result (IsReady (octets_of file.now) order.new) }
-{
-    let count = keys.len().saturating_mul(2);
-    let mut references = Vec::with_capacity(alloc, count as usize)?;
-    push_sorted(alloc, file, order, keys, values, &mut references)?;
-    Ok(references)
 }
 
 // Appends the references of an array.

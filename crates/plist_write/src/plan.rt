@@ -1,22 +1,18 @@
 //! Maps each object of the canonical file to the input object that it is written from.
-ghost use Rattle.std.specs.Prelude.{◌≡◌, ◌↔◌, ◌<◌, ℕ, List, length, IsOk, IfOk, OnOk};
+ghost use Rattle.std.specs.Prelude.{◌≡◌, ◌↔◌, ◌<◌, ℕ, List, [], length, IsOk, IfOk, OnOk};
 ghost use Rattle.plist_value.specs.Scalars.{content_of};
-ghost use Rattle.plist_value.specs.Plist.{Pairs};
 ghost use Rattle.plist_object.specs.Layout.{trailer_of};
-ghost use Rattle.plist_object.specs.Views.{numbers_of, octets_of};
+ghost use Rattle.plist_object.specs.Views.{octets_of};
 ghost use Rattle.plist_write.specs.ObjectNumbers.{IsNumber, kept};
-ghost use Rattle.plist_keys.specs.KeyOrder.{IsReady};
-ghost use Rattle.plist_write.specs.Spelling.{IsTableOf, SpellTable, sorted_references};
-ghost use Rattle.plist_write.specs.Plan.{BeginsContainer, IsEmptyPlan, IsUnseen};
+ghost use Rattle.plist_write.specs.Plan.{AddsObject, IsEmptyPlan, IsUnseen};
 ghost use Rattle.plist_write.specs.Plan.{KnowsScalars, MeetsScalar, NumbersScalar};
 
 use crate::object_numbers::{ObjectNumbers, UNIQUE};
-use crate::order::{push_all, push_sorted};
+use crate::objects::Source;
 use crate::scalar_numbers::ScalarNumbers;
-use plist_keys::KeyOrder;
-use plist_object::{BinFile, Refs, to_u32};
+use plist_object::to_u32;
 use plist_value::{MAX_NODES, ScalarRef};
-use std::alloc::{AllocError, Global};
+use std::alloc::AllocError;
 use std::hash::BuildHasher;
 
 // The objects of a canonical file: for each number the input object that it is written from, and
@@ -41,10 +37,11 @@ pub(crate) struct Plan<'a, S: BuildHasher> {
 impl<'a, S: BuildHasher + Copy> Plan<'a, S> {
     // Returns the empty plan. Capacity is reserved for what most files need, but for no more than
     // a value within the limits has. Reserved memory that is never used costs nothing.
-    pub(crate) fn new(alloc: Global, hasher: S, file: &BinFile) -> Result<Plan<'a, S>, AllocError>
+    pub(crate) fn new(source: &Source, hasher: S) -> Result<Plan<'a, S>, AllocError>
         ensures empty { IfOk result IsEmptyPlan }
-        ensures knows { IfOk result (KnowsScalars (octets_of file.now)) }
+        ensures knows { IfOk result (KnowsScalars (octets_of source.now.file)) }
     {
+        let (alloc, file) = (source.alloc, &source.file);
         let objects = file.count().min(MAX_NODES);
         let references = objects.saturating_mul(4).min(MAX_NODES);
         let memo = ObjectNumbers::new(alloc, file.count())?;
@@ -63,24 +60,24 @@ impl<'a, S: BuildHasher + Copy> Plan<'a, S> {
     // equal scalar, or a new one.
     pub(crate) fn scalar(
         &mut self,
-        alloc: Global,
-        file: &BinFile,
+        source: &Source,
         object: u64,
         scalar: ScalarRef<'a>,
     ) -> Result<u32, AllocError>
-        requires { object < (trailer_of (octets_of file.now)).count }
-        ensures numbers { IfOk result (NumbersScalar (octets_of file.now) object
+        requires { object < (trailer_of (octets_of source.now.file)).count }
+        ensures numbers { IfOk result (NumbersScalar (octets_of source.now.file) object
             (content_of scalar.entry) self.old self.new) }
         ensures knows { OnOk result
-            (IsUnseen (octets_of file.now) object (content_of scalar.entry) self.old
-            → KnowsScalars (octets_of file.now) self.new) }
+            (IsUnseen (octets_of source.now.file) object (content_of scalar.entry) self.old
+            → KnowsScalars (octets_of source.now.file) self.new) }
     {
+        let file = &source.file;
         if let Some(number) = self.memo.number_at(file, object, &scalar) {
             self.memo.keep(object, number);
             return Ok(number);
         }
         self.memo
-            .find_unique(alloc, &self.hasher, file, self.scalars.len())?;
+            .find_unique(source.alloc, &self.hasher, file, self.scalars.len())?;
         let next = self.next_number()?;
         if let Some(number) = meet(&self.memo, &mut self.scalars, object, scalar, next)? {
             self.memo.keep_scalar(file, object, &scalar, number)?;
@@ -102,10 +99,20 @@ impl<'a, S: BuildHasher + Copy> Plan<'a, S> {
         ensures knows { OnOk result ((f : List ℕ) (r : ScalarRef)
             → IsUnseen f object (content_of r) self.old → KnowsScalars f self.new) }
     {
+        let number = self.add(object)?;
+        self.memo.keep(object, number);
+        Ok(number)
+    }
+
+    // Adds an object, whose references are still to be appended. Returns its number.
+    #[inline(always)]
+    pub(crate) fn add(&mut self, object: u64) -> Result<u32, AllocError>
+        ensures adds { IfOk result (AddsObject object [] self.old self.new) }
+        ensures some { IfOk result IsNumber }
+    {
         let number = self.next_number()?;
         let original = to_u32(object)?;
         self.originals.push(original)?;
-        self.memo.keep(object, number);
         Ok(number)
     }
 
@@ -130,43 +137,6 @@ impl<'a, S: BuildHasher + Copy> Plan<'a, S> {
         if number >= UNIQUE {
             return Err(AllocError);
         }
-        Ok(number)
-    }
-
-    // Adds an array and appends its references. Returns its number.
-    pub(crate) fn begin_list(&mut self, object: u64, items: &Refs) -> Result<u32, AllocError>
-        ensures { IfOk result (BeginsContainer object (numbers_of items.now) self.old self.new) }
-    {
-        let number = self.next_number()?;
-        let original = to_u32(object)?;
-        self.originals.push(original)?;
-        push_all(items, &mut self.references)?;
-        Ok(number)
-    }
-
-    // Adds a dictionary, and appends the references to its keys, in ascending order of the keys,
-    // and then those to its values in the same order. Returns its number.
-    pub(crate) fn begin_table(
-        &mut self,
-        alloc: Global,
-        file: &BinFile<'a>,
-        order: &mut KeyOrder<'a>,
-        object: u64,
-        keys: &Refs<'a>,
-        values: &Refs,
-    ) -> Result<u32, AllocError>
-        requires table { IsTableOf (octets_of file.now) (numbers_of keys.now)
-            (numbers_of values.now) }
-        requires ready { IsReady (octets_of file.now) order.old }
-        ensures begins { IfOk result (λ number. (rows : List (ℕ × ℕ)) (ps : Pairs)
-            → SpellTable (octets_of file.now) (numbers_of keys.now) (numbers_of values.now) rows ps
-            → BeginsContainer object (sorted_references rows) self.old self.new number) }
-        ensures ready { OnOk result (IsReady (octets_of file.now) order.new) }
-    {
-        let number = self.next_number()?;
-        let original = to_u32(object)?;
-        self.originals.push(original)?;
-        push_sorted(alloc, file, order, keys, values, &mut self.references)?;
         Ok(number)
     }
 }

@@ -6,27 +6,29 @@ ghost use Rattle.plist_keys.specs.KeyOrder.{IsReady};
 ghost use Rattle.plist_object.specs.Layout.{header};
 ghost use Rattle.plist_object.specs.Sizes.{IsWidth};
 ghost use Rattle.plist_object.specs.Spelled.{IsBinary};
-ghost use Rattle.plist_object.specs.Spelling.{least_width, scalar_spelling};
+ghost use Rattle.plist_object.specs.Spelling.{scalar_spelling};
 ghost use Rattle.plist_object.specs.Views.{octets_of};
 ghost use Rattle.plist_object.specs.Files.{starts};
 ghost use Rattle.plist_write.specs.Canonical.{canon, file_of, objects_of};
 ghost use Rattle.plist_write.specs.Pieces.{CanSpellAll, CanSpellObject, octets_in_object};
 ghost use Rattle.plist_write.specs.Sending.{Allows, ArePieces, IsWritten};
 ghost use Rattle.plist_write.specs.Tree.{preorder};
-ghost use Rattle.plist_write.specs.Renumbering.{AreSound, helds_of, octets_planned};
+ghost use Rattle.plist_write.specs.Renumbering.{AreSound, CanSend, helds_of, octets_planned};
+ghost use Rattle.plist_write.specs.Renumbering.{planned};
 ghost use Rattle.plist_write.specs.BufferedSink.{CanTake, Emits, KeepsShort, LeavesRoom};
 ghost use Rattle.plist_write.specs.BufferedSink.{Stays, sink_state};
 
 use crate::buffered_sink::PIECE;
 use crate::file_end::send_end;
 use crate::new_objects::{NewObject, object_length, put_object};
+use crate::objects::Source;
 use crate::plan::CanonicalObjects;
 use crate::renumbering::renumbered_object;
 use crate::walk::objects_of;
 use crate::{BufferedSink, WriteFault};
 use plist_devices::Sink;
 use plist_keys::JudgedFile;
-use plist_object::{BinFile, HEADER, put_data_head, width_of};
+use plist_object::{HEADER, put_data_head, width_of};
 use plist_value::ScalarRef;
 use std::alloc::Global;
 use std::hash::BuildHasher;
@@ -64,67 +66,51 @@ pub fn write_canonical_of<S: BuildHasher + Copy, W: Sink>(
         → ArePieces (objects_of (preorder v)) (W.longest out.old) (W.longest out.new) }
 {
     let JudgedFile { file, order, .. } = judged;
-    let objects = objects_of(alloc, hasher, &file, order)?;
-    send_file(alloc, &file, objects, out)
+    let source = Source { alloc, file };
+    let objects = objects_of(&source, hasher, order)?;
+    send_file(&source, objects, out)
 }
 
 fn send_file<W: Sink>(
-    alloc: Global,
-    file: &BinFile,
+    source: &Source,
     objects: CanonicalObjects,
     sink: &mut W,
 ) -> Result<u64, WriteFault>
-    requires few { length objects.originals.items < 2 ^ 32 }
-    requires sound { AreSound (octets_of file.now)
-        objects.originals.items objects.references.items }
-    requires spellable { CanSpellAll (least_width (length objects.originals.items))
-        (helds_of (octets_of file.now) objects.originals.items objects.references.items) }
-    requires short { length (file_of (octets_planned (least_width (length objects.originals.items))
-        (octets_of file.now) objects)) < 2 ^ 64 }
-    ensures written { IsWritten (file_of (octets_planned
-        (least_width (length objects.originals.items)) (octets_of file.now) objects))
+    requires can { CanSend (octets_of source.now.file) objects }
+    ensures written { IsWritten (file_of (planned (octets_of source.now.file) objects))
         (W.taken sink.old) (W.taken sink.new)
         (W.failures sink.old) (W.failures sink.new) result }
     ensures same { W.device sink.new ≡ W.device sink.old }
-    ensures pieces { ArePieces (octets_planned (least_width (length objects.originals.items))
-        (octets_of file.now) objects) (W.longest sink.old) (W.longest sink.new) }
+    ensures pieces { ArePieces (planned (octets_of source.now.file) objects)
+        (W.longest sink.old) (W.longest sink.new) }
 {
-    let mut waiting = Vec::from_slice(alloc, &HEADER)?;
+    let mut waiting = Vec::from_slice(source.alloc, &HEADER)?;
     let mut out = BufferedSink {
         sink,
         waiting: &mut waiting,
         sent: 0,
     };
-    send_planned(alloc, file, objects, &mut out)
+    send_planned(source, objects, &mut out)
 }
 
 // Sends the file of the planned objects, whose header is already in the buffer.
 fn send_planned<W: Sink>(
-    alloc: Global,
-    file: &BinFile,
+    source: &Source,
     objects: CanonicalObjects,
     out: &mut BufferedSink<W>,
 ) -> Result<u64, WriteFault>
-    requires few { length objects.originals.items < 2 ^ 32 }
-    requires sound { AreSound (octets_of file.now)
-        objects.originals.items objects.references.items }
-    requires spellable { CanSpellAll (least_width (length objects.originals.items))
-        (helds_of (octets_of file.now) objects.originals.items objects.references.items) }
-    requires short { length (file_of (octets_planned (least_width (length objects.originals.items))
-        (octets_of file.now) objects)) < 2 ^ 64 }
+    requires can { CanSend (octets_of source.now.file) objects }
     requires begun { out.old.waiting.now.items ≡ header }
     requires first { out.old.sent ≡ 0 }
-    ensures written { IsWritten (file_of (octets_planned
-        (least_width (length objects.originals.items)) (octets_of file.now) objects))
+    ensures written { IsWritten (file_of (planned (octets_of source.now.file) objects))
         (W.taken out.old.sink.now) (W.taken out.new.sink.now)
         (W.failures out.old.sink.now) (W.failures out.new.sink.now) result }
     ensures stays { Stays (sink_state W.Sink out.old) (sink_state W.Sink out.new) }
-    ensures pieces { ArePieces (octets_planned (least_width (length objects.originals.items))
-        (octets_of file.now) objects)
+    ensures pieces { ArePieces (planned (octets_of source.now.file) objects)
         (W.longest out.old.sink.now) (W.longest out.new.sink.now) }
 {
     let width = width_of(objects.originals.len() as u64);
-    let offsets = send_objects(alloc, file, width, &objects, out)?;
+    let offsets = send_objects(source, width, &objects, out)?;
     drop(objects);
     send_end(&offsets, out)?;
     Ok(out.sent)
@@ -132,32 +118,32 @@ fn send_planned<W: Sink>(
 
 // Sends the objects, and returns their offsets in the file.
 fn send_objects<W: Sink>(
-    alloc: Global,
-    file: &BinFile,
+    source: &Source,
     width: u8,
     objects: &CanonicalObjects,
     out: &mut BufferedSink<W>,
 ) -> Result<Vec<u64>, WriteFault>
     requires width { IsWidth width }
-    requires sound { AreSound (octets_of file.now)
+    requires sound { AreSound (octets_of source.now.file)
         objects.now.originals.items objects.now.references.items }
-    requires spellable { CanSpellAll width
-        (helds_of (octets_of file.now) objects.now.originals.items objects.now.references.items) }
+    requires spellable { CanSpellAll width (helds_of (octets_of source.now.file)
+        objects.now.originals.items objects.now.references.items) }
     requires waits { 0 < length out.old.waiting.now.items }
     requires room { out.old.sent + (length out.old.waiting.now.items
-        + length (concat (octets_planned width (octets_of file.now) objects.now))) < 2 ^ 64 - 8 }
-    ensures emits { Emits (concat (octets_planned width (octets_of file.now) objects.now))
+        + length (concat (octets_planned width (octets_of source.now.file) objects.now)))
+        < 2 ^ 64 - 8 }
+    ensures emits { Emits (concat (octets_planned width (octets_of source.now.file) objects.now))
         (sink_state W.Sink out.old) (sink_state W.Sink out.new) result }
     ensures offsets { IfOk result (λ offsets. offsets.items
-        ≡ starts 8 (octets_planned width (octets_of file.now) objects.now)) }
-    ensures pieces { KeepsShort (octets_planned width (octets_of file.now) objects.now) 0
+        ≡ starts 8 (octets_planned width (octets_of source.now.file) objects.now)) }
+    ensures pieces { KeepsShort (octets_planned width (octets_of source.now.file) objects.now) 0
         (sink_state W.Sink out.old) (sink_state W.Sink out.new) result }
 {
-    let mut offsets = out.grown(Vec::with_capacity(alloc, objects.originals.len()))?;
+    let mut offsets = out.grown(Vec::with_capacity(source.alloc, objects.originals.len()))?;
     let mut numbers = objects.references.as_slice();
     let mut offset = 8;
     for original in &objects.originals {
-        let (object, behind) = renumbered_object(file, u64::from(*original), numbers);
+        let (object, behind) = renumbered_object(&source.file, u64::from(*original), numbers);
         let size = object_length(width, &object);
         offsets.push_reserved(offset);
         send_object(width, &object, size, out)?;

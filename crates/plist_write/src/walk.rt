@@ -5,33 +5,33 @@ ghost use Rattle.plist_object.specs.Spelled.{IsBinary, SpellsWithin};
 ghost use Rattle.plist_object.specs.Views.{octets_of};
 ghost use Rattle.plist_write.specs.Spelling.{SpellWithin};
 ghost use Rattle.plist_keys.specs.KeyOrder.{IsReady};
-ghost use Rattle.plist_write.specs.Plan.{AreObjectsOf, AreWalked, IsWalked, KnowsScalars};
+ghost use Rattle.plist_write.specs.Plan.{AreObjectsOf, AreWalked, IsWalked, Knows};
 ghost use Rattle.plist_write.specs.ObjectNumbers.{kept};
 
 use crate::object_numbers::UNIQUE;
-use crate::objects::object_of;
+use crate::objects::{Source, TableRefs, object_of};
+use crate::order::{push_all, push_sorted};
 use crate::plan::{CanonicalObjects, Plan};
 use plist_keys::KeyOrder;
-use plist_object::{BinFile, Object};
+use plist_object::Object;
 use plist_value::MAX_DEPTH;
-use std::alloc::{AllocError, Global};
+use std::alloc::AllocError;
 use std::hash::BuildHasher;
 
 // Returns the objects of the canonical file of the value that the file encodes.
 pub(crate) fn objects_of<'a, S: BuildHasher + Copy>(
-    alloc: Global,
+    source: &Source<'a>,
     hasher: S,
-    file: &BinFile<'a>,
     order: KeyOrder<'a>,
 ) -> Result<CanonicalObjects, AllocError>
-    requires binary { (v : Plist) × IsBinary (octets_of file.now) v }
-    requires ready { IsReady (octets_of file.now) order }
-    ensures { IfOk result (λ objects. (v : Plist) → IsBinary (octets_of file.now) v
-        → AreObjectsOf (octets_of file.now) v objects) }
+    requires binary { (v : Plist) × IsBinary (octets_of source.now.file) v }
+    requires ready { IsReady (octets_of source.now.file) order }
+    ensures { IfOk result (λ objects. (v : Plist) → IsBinary (octets_of source.now.file) v
+        → AreObjectsOf (octets_of source.now.file) v objects) }
 {
-    let mut plan = Plan::new(alloc, hasher, file)?;
+    let mut plan = Plan::new(source, hasher)?;
     let mut order = order;
-    walk(alloc, file, &mut plan, &mut order, file.top(), MAX_DEPTH)?;
+    walk(source, &mut plan, &mut order, source.file.top(), MAX_DEPTH)?;
     Ok(plan.into_objects())
 }
 
@@ -40,19 +40,16 @@ pub(crate) fn objects_of<'a, S: BuildHasher + Copy>(
 #[cycle(walk)]
 #[inline(always)]
 fn walk<'a, S: BuildHasher + Copy>(
-    alloc: Global,
-    file: &BinFile<'a>,
+    source: &Source<'a>,
     plan: &mut Plan<'a, S>,
     order: &mut KeyOrder<'a>,
     object: u64,
     levels: u64,
 ) -> Result<u32, AllocError>
-    requires spells { SpellsWithin (octets_of file.now) object levels }
-    requires knows { KnowsScalars (octets_of file.now) plan.old }
-    requires ready { IsReady (octets_of file.now) order.old }
-    ensures walked { IfOk result (IsWalked (octets_of file.now) object plan.old plan.new) }
-    ensures knows { OnOk result (KnowsScalars (octets_of file.now) plan.new) }
-    ensures ready { OnOk result (IsReady (octets_of file.now) order.new) }
+    requires spells { SpellsWithin (octets_of source.now.file) object levels }
+    requires knows { Knows (octets_of source.now.file) plan.old order.old }
+    ensures walked { IfOk result (IsWalked (octets_of source.now.file) object plan.old plan.new) }
+    ensures knows { OnOk result (Knows (octets_of source.now.file) plan.new order.new) }
 {
     if let Some(number) = plan.memo.number_of(object) {
         return Ok(number);
@@ -60,39 +57,39 @@ fn walk<'a, S: BuildHasher + Copy>(
     if plan.memo.is_unique(object) {
         return plan.unique_scalar(object);
     }
-    walk_object(alloc, file, plan, order, object, levels)
+    walk_object(source, plan, order, object, levels)
 }
 
 // Like `walk`, for an object that was not visited as a scalar.
 #[cycle(walk)]
 fn walk_object<'a, S: BuildHasher + Copy>(
-    alloc: Global,
-    file: &BinFile<'a>,
+    source: &Source<'a>,
     plan: &mut Plan<'a, S>,
     order: &mut KeyOrder<'a>,
     object: u64,
     levels: u64,
 ) -> Result<u32, AllocError>
-    requires spells { SpellsWithin (octets_of file.now) object levels }
-    requires knows { KnowsScalars (octets_of file.now) plan.old }
+    requires spells { SpellsWithin (octets_of source.now.file) object levels }
+    requires knows { Knows (octets_of source.now.file) plan.old order.old }
     requires unseen { UNIQUE ≤ kept plan.old.memo object }
-    requires ready { IsReady (octets_of file.now) order.old }
-    ensures walked { IfOk result (IsWalked (octets_of file.now) object plan.old plan.new) }
-    ensures knows { OnOk result (KnowsScalars (octets_of file.now) plan.new) }
-    ensures ready { OnOk result (IsReady (octets_of file.now) order.new) }
+    ensures walked { IfOk result (IsWalked (octets_of source.now.file) object plan.old plan.new) }
+    ensures knows { OnOk result (Knows (octets_of source.now.file) plan.new order.new) }
 {
-    match object_of(file, object) {
-        Object::Scalar(scalar) => plan.scalar(alloc, file, object, scalar),
+    match object_of(&source.file, object) {
+        Object::Scalar(scalar) => plan.scalar(source, object, scalar),
         Object::List(items) => {
             let first = plan.references.len();
-            let number = plan.begin_list(object, &items)?;
-            walk_children(alloc, file, plan, order, first, levels - 1)?;
+            let number = plan.add(object)?;
+            push_all(&items, &mut plan.references)?;
+            walk_children(source, plan, order, first, levels - 1)?;
             Ok(number)
         }
         Object::Table(keys, values) => {
             let first = plan.references.len();
-            let number = plan.begin_table(alloc, file, order, object, &keys, &values)?;
-            walk_children(alloc, file, plan, order, first, levels - 1)?;
+            let number = plan.add(object)?;
+            let table = TableRefs { keys, values };
+            push_sorted(source, order, &table, &mut plan.references)?;
+            walk_children(source, plan, order, first, levels - 1)?;
             Ok(number)
         }
     }
@@ -102,25 +99,22 @@ fn walk_object<'a, S: BuildHasher + Copy>(
 // by the number that it becomes.
 #[cycle(walk)]
 fn walk_children<'a, S: BuildHasher + Copy>(
-    alloc: Global,
-    file: &BinFile<'a>,
+    source: &Source<'a>,
     plan: &mut Plan<'a, S>,
     order: &mut KeyOrder<'a>,
     first: usize,
     levels: u64,
 ) -> Result<(), AllocError>
     requires first { first ≤ length plan.old.references.items }
-    requires spell { SpellWithin (octets_of file.now)
+    requires spell { SpellWithin (octets_of source.now.file)
         (drop first plan.old.references.items) levels }
-    requires knows { KnowsScalars (octets_of file.now) plan.old }
-    requires ready { IsReady (octets_of file.now) order.old }
-    ensures walked { OnOk result (AreWalked (octets_of file.now) first plan.old plan.new) }
-    ensures knows { OnOk result (KnowsScalars (octets_of file.now) plan.new) }
-    ensures ready { OnOk result (IsReady (octets_of file.now) order.new) }
+    requires knows { Knows (octets_of source.now.file) plan.old order.old }
+    ensures walked { OnOk result (AreWalked (octets_of source.now.file) first plan.old plan.new) }
+    ensures knows { OnOk result (Knows (octets_of source.now.file) plan.new order.new) }
 {
     for i in first..plan.references.len() {
         let object = plan.references[i];
-        let number = walk(alloc, file, plan, order, u64::from(object), levels)?;
+        let number = walk(source, plan, order, u64::from(object), levels)?;
         plan.references[i] = number;
     }
     Ok(())

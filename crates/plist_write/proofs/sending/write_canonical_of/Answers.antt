@@ -2,7 +2,7 @@ use Rattle.std.proofs.Common.{refl, sym, arith}
 use Rattle.std.proofs.KnownBytes.{Appends-nil}
 use Rattle.std.proofs.lemmas.Result.{err_from_is_err_and}
 use Rattle.plist_object.specs.Views.{octets_of}
-use Rattle.plist_write.proofs.Finding.{are-objects, few-objects, sound-objects, spellable-objects, is-canon, short-objects}
+use Rattle.plist_write.proofs.Finding.{are-objects, can-send, is-canon}
 use Rattle.plist_write.proofs.FileSteps.{canon-some}
 use Rattle.plist_write.proofs.sending.write_canonical_of.Goals as goal
 
@@ -11,21 +11,10 @@ returns-in_err-objects-clause-written g c = λ v binary.
     let e = err_from_is_err_and c.from_residual.result c.from_residual.ensures.1 in
     rw (e.1, e.2) (record { count = tt; whole = tt; within = omega (arith, canon-some v); front = (Appends-nil (g.W.Sink.taken c.args.out.now), refl) })
 
-pub send_file-requires-clause-few : goal.send_file-requires-clause-few
-send_file-requires-clause-few g c =
-    few-objects (octets_of c.args.judged.file) c.requires.binary.0 c.requires.binary.1 c.in_ok-objects.objects (c.in_ok-objects.ensures c.requires.binary.0 c.requires.binary.1)
-
-pub send_file-requires-clause-sound : goal.send_file-requires-clause-sound
-send_file-requires-clause-sound g c =
-    sound-objects (octets_of c.args.judged.file) c.requires.binary.0 c.requires.binary.1 c.in_ok-objects.objects (c.in_ok-objects.ensures c.requires.binary.0 c.requires.binary.1)
-
-pub send_file-requires-clause-spellable : goal.send_file-requires-clause-spellable
-send_file-requires-clause-spellable g c =
-    spellable-objects (octets_of c.args.judged.file) c.requires.binary.0 c.requires.binary.1 c.in_ok-objects.objects (c.in_ok-objects.ensures c.requires.binary.0 c.requires.binary.1)
-
-pub send_file-requires-clause-short : goal.send_file-requires-clause-short
-send_file-requires-clause-short g c =
-    short-objects (octets_of c.args.judged.file) c.requires.binary.0 c.requires.binary.1 c.in_ok-objects.objects (c.in_ok-objects.ensures c.requires.binary.0 c.requires.binary.1)
+pub send_file-requires : goal.send_file-requires
+send_file-requires g c = record {
+  can = can-send (octets_of c.args.judged.file) c.requires.binary.0 c.requires.binary.1 c.in_ok-objects.objects (c.in_ok-objects.ensures c.requires.binary.0 c.requires.binary.1);
+}
 
 pub returns-clause-written : goal.returns-clause-written
 returns-clause-written g c = λ v binary.

@@ -1,8 +1,7 @@
 use Rattle.std.proofs.Common.{ℕ, ◌+◌, ◌*◌, ◌≤◌, List, ◌++◌, length, drop}
-use Rattle.plist_keys.specs.KeyOrder.{IsReady}
 use Rattle.plist_object.specs.Views.{octets_of}
 use Rattle.plist_write.specs.declared.plan.Plan.{Plan}
-use Rattle.plist_write.specs.Plan.{ItemsWalked, KnowsScalars}
+use Rattle.plist_write.specs.Plan.{ItemsWalked, Knows}
 use Rattle.plist_write.proofs.Filling.{IsFilling}
 use Rattle.plist_write.proofs.walk.+walk.Given as goal
 
@@ -23,7 +22,6 @@ invariant-walk_children-loop-i g l =
       within : l.i ≤ length start;
       done : List ℕ;
       filling : IsFilling l.first l.i start l.plan.references.items done;
-      more : (new : Plan _ _) (numbers : List ℕ) → ItemsWalked (octets_of l.file) (length start) (drop l.i start) l.plan new numbers → ItemsWalked (octets_of l.file) (length start) (drop l.first start) l.fn.plan new (done ++ numbers);
-      knows : KnowsScalars (octets_of l.file) l.plan;
-      ready : IsReady (octets_of l.file) l.order;
+      more : (new : Plan _ _) (numbers : List ℕ) → ItemsWalked (octets_of l.source.file) (length start) (drop l.i start) l.plan new numbers → ItemsWalked (octets_of l.source.file) (length start) (drop l.first start) l.fn.plan new (done ++ numbers);
+      knows : Knows (octets_of l.source.file) l.plan l.order;
     }

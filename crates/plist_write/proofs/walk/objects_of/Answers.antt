@@ -13,13 +13,13 @@ walk-requires-clause-spells g c =
     record {
       value = c.requires.binary.0;
       valid = binary.valid;
-      spells = subst (λ (i : ℕ). Spells (octets_of c.args.file.now) i c.requires.binary.0) (sym c.top.ensures.value) binary.spells;
+      spells = subst (λ (i : ℕ). Spells (octets_of c.args.source.now.file) i c.requires.binary.0) (sym c.top.ensures.value) binary.spells;
       deep = binary.fits.depth_fits;
     }
 
 pub returns : goal.returns
 returns g c = λ v binary.
-    let f = octets_of c.args.file.now in
+    let f = octets_of c.args.source.now.file in
     let walked = c.in_ok-walk.ensures.walked in
     let top = c.top.result in
     let spells = subst (λ (i : ℕ). Spells f i v) (sym c.top.ensures.value) binary.spells in
@@ -30,4 +30,4 @@ returns g c = λ v binary.
     }
 
 pub walk-requires-clause-knows : goal.walk-requires-clause-knows
-walk-requires-clause-knows g c = c.in_ok-plan.ensures.knows
+walk-requires-clause-knows g c = record { scalars = c.in_ok-plan.ensures.knows; ready = c.requires.ready }
