@@ -45,7 +45,7 @@ impl Bits {
         ensures set { HasBit self.new bit }
         ensures kept { KeepsBits self.old self.new }
     {
-        set_bit(&mut self.words, bit);
+        self.set_if(bit, true);
     }
 
     // Sets the bit if `wanted`, without a branch that the processor could mispredict.
@@ -67,17 +67,6 @@ fn is_set(words: &[u64], bit: u32) -> bool
         return true;
     }
     words[index] >> (bit % 64) & 1 == 1
-}
-
-#[inline(always)]
-fn set_bit(words: &mut [u64], bit: u32)
-    ensures set { IsSet words.new bit }
-    ensures kept { (n : ℕ) → IsSet words.old n → IsSet words.new n }
-{
-    let index = bit as usize / 64;
-    if index < words.len() {
-        words[index] |= 1 << (bit % 64);
-    }
 }
 
 #[inline(always)]
