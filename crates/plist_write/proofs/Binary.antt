@@ -38,18 +38,15 @@ module _ (all : List Plist) (some : 1 ≤ length all) (few : length all ≤ 1677
   count-least : 1 ≤ count
   count-least =
       let entry = number-entry all 0 (value_at all 0) refl some in
-      let below = entry.0 in
-      omega arith
+      omega (arith, entry.0)
 
   width-small : least_width count ≤ 4
   width-small = let most = count-most in least_width-small count (omega arith)
 
   pub number-fits : (k : ℕ) → number k < 256 ^ least_width count
   number-fits k =
-      let most = count-most in
-      let holds = least_width-holds count (omega arith) in
-      let below = count_below-le (first_position all k (value_at all k)) (kept_positions all) in
-      omega arith
+      let holds = least_width-holds count (omega (arith, count-most)) in
+      omega (arith, count_below-le (first_position all k (value_at all k)) (kept_positions all), count-most)
 
   pub length-objects_of : length (objects_of all) ≡ count
   length-objects_of = length-map (kept_positions all) _
@@ -62,9 +59,8 @@ module _ (all : List Plist) (some : 1 ≤ length all) (few : length all ≤ 1677
 
   pub objects-some : (i : ℕ) → i < length (objects_of all) → 1 ≤ length (get_or (objects_of all) i [])
   objects-some i h =
-      let listed = length-objects_of in
       let p = get_or (kept_positions all) i (0, list no_items) in
-      rw (objects-at i (omega arith)) (some-object number (least_width count) p.0 p.1)
+      rw (objects-at i (omega (arith, length-objects_of))) (some-object number (least_width count) p.0 p.1)
 
   module _ (light : 8 + total all < 18446744073709551616) where
     pub some-objects : 1 ≤ length (objects_of all)
@@ -137,14 +133,9 @@ module _ (v : Plist) (sound : IsSound v) where
   canon-size =
       let all = preorder v in
       let each = EachSound-tree v sound in
-      let small = objects-small all (tree-some v) few each in
-      let weigh = total-tree v in
-      let narrow = least_width-small (8 + length (concat (objects_of all))) (let l = tree-light v sound in omega arith) in
-      let listed = length-objects_of all (tree-some v) few each in
-      let most = count-most all (tree-some v) few each in
-      let positions = length-preorder v in
+      let narrow = least_width-small (8 + length (concat (objects_of all))) (let l = tree-light v sound in omega (arith, total-tree v, objects-small all (tree-some v) few each)) in
       let entries : least_width (8 + length (concat (objects_of all))) * length (objects_of all) ≤ 4 * length (objects_of all) = mul-le-mul_right (length (objects_of all)) narrow in
-      rw (length-file_of (objects_of all)) (omega arith)
+      rw (length-file_of (objects_of all)) (omega (arith, length-preorder v, count-most all (tree-some v) few each, length-objects_of all (tree-some v) few each, total-tree v, objects-small all (tree-some v) few each))
 
 pub canon-binary : (v : Plist) → IsPlist v → Fits v → IsBinary (canon v) v
 canon-binary v valid fits =

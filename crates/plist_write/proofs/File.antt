@@ -33,10 +33,7 @@ module _ (objects : List (List ℕ)) (some : 1 ≤ length objects)
   starts_fit : (i : ℕ) → i < length objects → get_or (starts 8 objects) i 0 < 256 ^ offset_width
   starts_fit i h =
       let x = is_piece 8 objects i h in
-      let within = x.within in
-      let start = x.start in
-      let holds = least_width-holds (8 + length (concat objects)) table_fits in
-      omega arith
+      omega (arith, least_width-holds (8 + length (concat objects)) table_fits, x.start, x.within)
 
   can_stand : CanStand offset_width reference_width 0 objects
   can_stand = record {

@@ -30,8 +30,7 @@ canon-some v = let size = file-length (objects_of (preorder v)) in omega (arith,
 starts-under : (bound p : ℕ) (objects : List (List ℕ)) → p + length (concat objects) ≤ bound → AllByRecursion (λ q. q ≤ bound) (starts p objects)
 starts-under bound p [] h = tt
 starts-under bound p (o ∷ objects) h =
-    let size = length-append o (concat objects) in
-    (omega arith, starts-under bound (p + length o) objects (omega arith))
+    (omega (arith, length-append o (concat objects)), starts-under bound (p + length o) objects (omega (arith, length-append o (concat objects))))
 
 -- no offset is after the end of the objects
 pub starts-before : (bound p : ℕ) (objects : List (List ℕ)) → p + length (concat objects) ≤ bound → All (λ q. q ≤ bound) (starts p objects)

@@ -19,19 +19,12 @@ filling-start first start h = record {
 module _ (first i : ℕ) (start now done : List ℕ) (h : first ≤ length start) (filling : IsFilling first i start now done) where
   front_long : length (take first start ++ done) ≡ i
   front_long =
-      let a = filling.as_many in
-      let b = length-take-le first start h in
-      let c = length-append (take first start) done in
-      omega arith
+      omega (arith, length-append (take first start) done, length-take-le first start h, filling.as_many)
 
   -- no reference was removed
   pub filling-long : length start ≤ length now
   filling-long =
-      let e = ap length filling.now_is ∙ length-append (take first start ++ done) (drop i start ++ filling.behind) in
-      let g = length-append (drop i start) filling.behind in
-      let k = length-drop i start in
-      let l = front_long in
-      omega arith
+      omega (arith, front_long, length-drop i start, length-append (drop i start) filling.behind, ap length filling.now_is ∙ length-append (take first start ++ done) (drop i start ++ filling.behind))
 
   split : (d : ℕ) → i < length start → now ≡ (take first start ++ done) ++ (get_or start i d ∷ (drop (i + 1) start ++ filling.behind))
   split d below =

@@ -23,18 +23,13 @@ spellable_refs number width below positions few = record {
 spellable_at : (number : ℕ → ℕ) (width : ℕ) → ((k : ℕ) → number k < 256 ^ width) → (k : ℕ) (v : Plist) → IsSound v → CanSpell width (held_at number k v)
 spellable_at number width below k (scalar s) h = IsSmall-sound s h.payload_fits
 spellable_at number width below k (list vs) h =
-    let n = h.nodes_fit in
-    let few = item_count-nodes vs in
-    let long = length-item_positions (suc k) vs in
-    spellable_refs number width below (item_positions (suc k) vs) (omega arith)
+    spellable_refs number width below (item_positions (suc k) vs) (omega (arith, length-item_positions (suc k) vs, item_count-nodes vs, h.nodes_fit))
 spellable_at number width below k (table ps) h =
-    let n = h.nodes_fit in
-    let few = key_count-nodes ps in
     let keys = length-key_positions (suc k) ps in
     let values = length-value_positions (suc k + length (key_texts ps)) ps in (
       rw (length-map, length-map, keys, values) refl,
-      spellable_refs number width below (key_positions (suc k) ps) (omega arith),
-      spellable_refs number width below (value_positions (suc k + length (key_texts ps)) ps) (omega arith),
+      spellable_refs number width below (key_positions (suc k) ps) (omega (arith, key_count-nodes ps, h.nodes_fit)),
+      spellable_refs number width below (value_positions (suc k + length (key_texts ps)) ps) (omega (arith, key_count-nodes ps, h.nodes_fit)),
     )
 
 pub octets-held : (number : ℕ → ℕ) (width k : ℕ) (v : Plist) → spelling_of width (held_at number k v) ≡ object_octets number width k v

@@ -18,8 +18,7 @@ pub least_position-le : (s : Scalar) (all : List Plist) (k : ℕ) → value_at a
 least_position-le s [] k h = absurd (cc)
 least_position-le s (v ∷ vs) zero h = rw (h, is_scalar-same s) (omega arith)
 least_position-le s (v ∷ vs) (suc k) h =
-    let rest = least_position-le s vs k h in
-    elim (is_scalar s v) as (λ t. cond t 0 (suc (least_position s vs)) ≤ suc k) [ true ↦ omega arith | false ↦ omega arith ]
+    elim (is_scalar s v) as (λ t. cond t 0 (suc (least_position s vs)) ≤ suc k) [ true ↦ omega (arith, least_position-le s vs k h) | false ↦ omega (arith, least_position-le s vs k h) ]
 
 pub least_position-holds : (s : Scalar) (all : List Plist) (k : ℕ) → value_at all k ≡ scalar s → value_at all (least_position s all) ≡ scalar s
 least_position-holds s [] k h = absurd (cc)
@@ -75,10 +74,9 @@ kept_from-entry all (v ∷ rest) k (suc j) n h at first =
 pub number-entry : (all : List Plist) (k : ℕ) (v : Plist) → value_at all k ≡ v → k < length all → IsEntry (first_position all k v) v (kept_positions all)
 number-entry all k v is h =
     let first = first_position all k v in
-    let before = first_position-le all k v is in
     let holds = first_position-holds all k v is in
     let own : first_position all first (value_at all first) ≡ first = rw holds (first_position-first all k v) in
-    rw holds at (kept_from-entry all all 0 first first (omega arith) (omega arith) own)
+    rw holds at (kept_from-entry all all 0 first first (omega (arith, first_position-le all k v is)) (omega (arith, first_position-le all k v is)) own)
 
 -- the top object has number 0
 pub number-top : (all : List Plist) → number_among all (kept_positions all) 0 ≡ 0

@@ -62,8 +62,7 @@ octets-ascii : (units : List ℕ) → list_all (λ u. ltb u 128) units ≡ true 
 octets-ascii [] h = none_under 256 (omega arith)
 octets-ascii (u ∷ us) h =
     let parts = and_parts (ltb u 128) (list_all (λ u. ltb u 128) us) h in
-    let small = ltb-true u 128 parts.0 in
-    under-cons 256 u us (omega arith) (octets-ascii us parts.1)
+    under-cons 256 u us (omega (arith, ltb-true u 128 parts.0)) (octets-ascii us parts.1)
 
 octets-text : (units : List ℕ) → AreOctets (text_spelling units)
 octets-text units =
@@ -101,12 +100,10 @@ octets-objects all number width k (v ∷ rest) each =
 
 octets-trailer : (n t : ℕ) → AreOctets (trailer_octets n t)
 octets-trailer n t =
-    let narrow = least_width-most n in
-    let narrow_too = least_width-most t in
     let numbers = big_bytes 8 n ++ (big_bytes 8 0 ++ big_bytes 8 t) in
     let octets = under-append 256 (big_bytes 8 n) (big_bytes 8 0 ++ big_bytes 8 t) (octets-big_bytes 8 n) (under-append 256 (big_bytes 8 0) (big_bytes 8 t) (octets-big_bytes 8 0) (octets-big_bytes 8 t)) in
     under-append 256 (replicate 6 0) (least_width t ∷ least_width n ∷ numbers) (octets-big_bytes 6 0)
-    (under-cons 256 (least_width t) (least_width n ∷ numbers) (omega arith) (under-cons 256 (least_width n) numbers (omega arith) octets))
+    (under-cons 256 (least_width t) (least_width n ∷ numbers) (omega (arith, least_width-most t, least_width-most n)) (under-cons 256 (least_width n) numbers (omega (arith, least_width-most t, least_width-most n)) octets))
 
 -- the header is the bytes of one number
 octets-header : AreOctets header

@@ -79,11 +79,10 @@ text_at f keys values k i table h is =
     let P : ℕ × ℕ → Type 0 = λ row. HoldsText f row.0 in
     let all = All-from_recursion P table.rows (all_texts f table.rows table.pairs table.spell.spell) in
     let there = All-permutation P table.rows (zip keys values) (IsPermutation-sym (zip keys values) table.rows table.spell.moved) all in
-    let as_many = table.as_many in
     let long = length-zip keys values in
-    let within : k < length (zip keys values) = rw long (omega arith) in
+    let within : k < length (zip keys values) = rw long (omega (arith, table.as_many)) in
     let row = there k (0, 0) within in
-    let at = get_or-zip keys values k (0, 0) h (omega arith) in
+    let at = get_or-zip keys values k (0, 0) h (omega (arith, table.as_many)) in
     subst (λ (n : ℕ). HoldsText f n) (ap (λ (p : ℕ × ℕ). p.0) at ∙ sym is) row
 
 -- the keys of a dictionary are strings

@@ -26,19 +26,15 @@ AllFit-map width number (k ∷ ks) fit = (fit k, AllFit-map width number ks fit)
 pub object_in-octets : (number : ℕ → ℕ) (width k : ℕ) (v : Plist) (rest : List ℕ) → ((j : ℕ) → number j < 256 ^ width) → IsSound v → object_in width (object_octets number width k v ++ rest) ≡ Ok (held_at number k v, rest)
 object_in-octets number width k (scalar s) rest fit h = object_in-scalar width s rest h.valid (IsSmall-sound s h.payload_fits)
 object_in-octets number width k (list vs) rest fit h =
-    let n = h.nodes_fit in
-    let few = item_count-nodes vs in
     let count : length (map number (item_positions (suc k) vs)) ≡ item_count vs = length-map (item_positions (suc k) vs) number ∙ length-item_positions (suc k) vs in
-    object_in-list width (map number (item_positions (suc k) vs)) rest (omega arith) (AllFit-map width number (item_positions (suc k) vs) fit)
+    object_in-list width (map number (item_positions (suc k) vs)) rest (omega (arith, item_count-nodes vs, h.nodes_fit)) (AllFit-map width number (item_positions (suc k) vs) fit)
 object_in-octets number width k (table ps) rest fit h =
-    let n = h.nodes_fit in
-    let few = key_count-nodes ps in
     let first = suc k + length (key_texts ps) in
     let keys = map number (key_positions (suc k) ps) in
     let values = map number (value_positions first ps) in
     let key_count : length keys ≡ length (key_texts ps) = length-map (key_positions (suc k) ps) number ∙ length-key_positions (suc k) ps in
     let value_count : length values ≡ length (key_texts ps) = length-map (value_positions first ps) number ∙ length-value_positions first ps in
-    object_in-table width keys values rest (omega arith) (key_count ∙ sym value_count) (AllFit-map width number (key_positions (suc k) ps) fit) (AllFit-map width number (value_positions first ps) fit)
+    object_in-table width keys values rest (omega (arith, key_count-nodes ps, h.nodes_fit)) (key_count ∙ sym value_count) (AllFit-map width number (key_positions (suc k) ps) fit) (AllFit-map width number (value_positions first ps) fit)
 
 -- positions that share an object have the same content
 pub held_at-first : (all : List Plist) (number : ℕ → ℕ) (k : ℕ) (v : Plist) → held_at number (first_position all k v) v ≡ held_at number k v
@@ -68,5 +64,4 @@ some-object number width k (table ps) = some-head 13 _ _
 pub count_below-le : (n : ℕ) (kept : List (ℕ × Plist)) → count_below n kept ≤ length kept
 count_below-le n [] = omega arith
 count_below-le n (p ∷ kept) =
-    let others = count_below-le n kept in
-    cond_both (ltb p.0 n) (suc (count_below n kept)) (count_below n kept) (λ k. k ≤ suc (length kept)) (λ _. omega arith) (λ _. omega arith)
+    cond_both (ltb p.0 n) (suc (count_below n kept)) (count_below n kept) (λ k. k ≤ suc (length kept)) (λ _. omega (arith, count_below-le n kept)) (λ _. omega (arith, count_below-le n kept))

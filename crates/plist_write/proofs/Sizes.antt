@@ -33,24 +33,17 @@ least_width-small n h =
 
 pub head_size-small : (n : ℕ) → n < 4294967296 → head_size n ≤ 6
 head_size-small n h =
-    let width = least_width-small n h in
-    cond_both (ltb n 15) 1 (2 + least_width n) (λ k. k ≤ 6) (λ _. omega arith) (λ _. omega arith)
+    cond_both (ltb n 15) 1 (2 + least_width n) (λ k. k ≤ 6) (λ _. omega (arith, least_width-small n h)) (λ _. omega (arith, least_width-small n h))
 
 pub length-whole : (z : ℤ) → length (whole_spelling z) ≤ 17
 length-whole (pos n) =
-    let width = least_width-most n in
-    let digits = length-bytes_high_first (least_width n) n in
-    cond_both (ltb n 9223372036854775808) (least_integer n) (20 ∷ (replicate 8 0 ++ big_bytes 8 n)) (λ octets. length octets ≤ 17) (λ _. omega arith) (λ _. omega arith)
+    cond_both (ltb n 9223372036854775808) (least_integer n) (20 ∷ (replicate 8 0 ++ big_bytes 8 n)) (λ octets. length octets ≤ 17) (λ _. omega (arith, length-bytes_high_first (least_width n) n, least_width-most n)) (λ _. omega (arith, length-bytes_high_first (least_width n) n, least_width-most n))
 length-whole (negsuc n) = omega arith
 
 pub length-text : (units : List ℕ) → length units < 4294967296 → length (text_spelling units) ≤ 6 + 2 * length units
 length-text units h =
-    let size = head_size-small (length units) h in
-    let ascii = length-head 5 (length units) in
-    let wide = length-head 6 (length units) in
-    let digits = length-references 2 units in
     cond_both (list_all (λ u. ltb u 128) units) (head 5 (length units) ++ units) (head 6 (length units) ++ references 2 units) (λ octets. length octets ≤ 6 + 2 * length units)
-    (λ _. rw length-append (omega arith)) (λ _. rw length-append (omega arith))
+    (λ _. rw length-append (omega (arith, length-references 2 units, length-head 6 (length units), length-head 5 (length units), head_size-small (length units) h))) (λ _. rw length-append (omega (arith, length-references 2 units, length-head 6 (length units), length-head 5 (length units), head_size-small (length units) h)))
 
 -- no object is encoded in 0 bytes
 before-more : (a b : List ℕ) → 0 < length a → 0 < length (a ++ b)
@@ -122,11 +115,8 @@ product-le w n h = mul-le-mul_right n h
 pub length-object : (number : ℕ → ℕ) (width k : ℕ) (v : Plist) → width ≤ 4 → IsSound v → length (object_octets number width k v) ≤ weight v
 length-object number width k (scalar s) narrow h = length-scalar s h.valid h.payload_fits
 length-object number width k (list vs) narrow h =
-    let n = h.nodes_fit in
-    let few = item_count-nodes vs in
-    let size = head_size-small (item_count vs) (omega arith) in
-    let most = product-le width (item_count vs) narrow in
-    rw (length-append, length-references, length-head, length-map, length-item_positions) (omega arith)
+    let size = head_size-small (item_count vs) (omega (arith, item_count-nodes vs, h.nodes_fit)) in
+    rw (length-append, length-references, length-head, length-map, length-item_positions) (omega (arith, product-le width (item_count vs) narrow, item_count-nodes vs, h.nodes_fit))
 length-object number width k (table ps) narrow h =
     let n = h.nodes_fit in
     let few = key_count-nodes ps in
@@ -150,53 +140,39 @@ mutual
   total-tree (scalar s) = omega arith
   total-tree (list vs) = let items = total-items vs in omega arith
   total-tree (table ps) =
-      let pairs = total-pairs ps in
-      let both = total-append (key_texts ps) (preorder_values ps) in
-      omega arith
+      omega (arith, total-append (key_texts ps) (preorder_values ps), total-pairs ps)
 
   total-items : (vs : Items) → total (preorder_items vs) + 4 * item_count vs ≤ payload_of_items vs + 21 * nodes_of_items vs
   total-items no_items = omega arith
   total-items (item v vs) =
-      let first = total-tree v in
-      let others = total-items vs in
-      let both = total-append (preorder v) (preorder_items vs) in
-      omega arith
+      omega (arith, total-append (preorder v) (preorder_items vs), total-items vs, total-tree v)
 
   total-pairs : (ps : Pairs) → total (key_texts ps) + total (preorder_values ps) + 8 * length (key_texts ps) ≤ payload_of_pairs ps + 21 * nodes_of_pairs ps
   total-pairs no_pairs = omega arith
   total-pairs (pair key v ps) =
-      let first = total-tree v in
-      let others = total-pairs ps in
-      let both = total-append (preorder v) (preorder_values ps) in
-      omega arith
+      omega (arith, total-append (preorder v) (preorder_values ps), total-pairs ps, total-tree v)
 
 -- the objects of the kept positions have at most that many bytes
 pub length-objects : (all : List Plist) (number : ℕ → ℕ) (width : ℕ) → width ≤ 4 → (k : ℕ) (rest : List Plist) → EachSound rest → length (concat (map (λ p. object_octets number width p.0 p.1) (kept_from all k rest))) ≤ total rest
 length-objects all number width narrow k [] each = omega arith
 length-objects all number width narrow k (v ∷ rest) each =
-    let others = length-objects all number width narrow (suc k) rest each.1 in
-    let first = length-object number width k v narrow each.0 in
     elim (eqb (first_position all k v) k) as (λ t. length (concat (map (λ p. object_octets number width p.0 p.1) (cond t ((k, v) ∷ kept_from all (suc k) rest) (kept_from all (suc k) rest)))) ≤ weight v + total rest) [
-      | true ↦ rw length-append (omega arith)
-      | false ↦ omega arith
+      | true ↦ rw length-append (omega (arith, length-object number width k v narrow each.0, length-objects all number width narrow (suc k) rest each.1))
+      | false ↦ omega (arith, length-object number width k v narrow each.0, length-objects all number width narrow (suc k) rest each.1)
     ]
 
 pub length-kept : (all : List Plist) (k : ℕ) (rest : List Plist) → length (kept_from all k rest) ≤ length rest
 length-kept all k [] = omega arith
 length-kept all k (v ∷ rest) =
-    let others = length-kept all (suc k) rest in
     elim (eqb (first_position all k v) k) as (λ t. length (cond t ((k, v) ∷ kept_from all (suc k) rest) (kept_from all (suc k) rest)) ≤ suc (length rest)) [
-      | true ↦ omega arith
-      | false ↦ omega arith
+      | true ↦ omega (arith, length-kept all (suc k) rest)
+      | false ↦ omega (arith, length-kept all (suc k) rest)
     ]
 
 head_size-most : (n : ℕ) → head_size n ≤ 10
 head_size-most n =
-    let width = least_width-most n in
-    cond_both (ltb n 15) 1 (2 + least_width n) (λ k. k ≤ 10) (λ _. omega arith) (λ _. omega arith)
+    cond_both (ltb n 15) 1 (2 + least_width n) (λ k. k ≤ 10) (λ _. omega (arith, least_width-most n)) (λ _. omega (arith, least_width-most n))
 
 pub head-most : (kind n : ℕ) → length (head kind n) ≤ 10
 head-most kind n =
-    let size = length-head kind n in
-    let most = head_size-most n in
-    omega arith
+    omega (arith, head_size-most n, length-head kind n)

@@ -30,8 +30,7 @@ mutual
   EachSound-tree (scalar s) h = (h, tt)
   EachSound-tree (list vs) h = let n = h.nodes_fit in (h, EachSound-items vs h.valid (omega arith) h.payload_fits)
   EachSound-tree (table ps) h =
-      let n = h.nodes_fit in
-      let fit : nodes_of_pairs ps ≤ 16777216 = omega arith in
+      let fit : nodes_of_pairs ps ≤ 16777216 = omega (arith, h.nodes_fit) in
       let keys = EachSound-keys ps h.valid fit h.payload_fits in
       (h, EachSound-append (key_texts ps) (preorder_values ps) keys (EachSound-values ps h.valid fit h.payload_fits))
 

@@ -112,10 +112,9 @@ length-pairs f one (row ∷ rows) (pair key v ps) h = ap suc (length-pairs f one
 module _ (f : List ℕ) (one : List ℕ → Plist → List ℕ) (refs : List ℕ) (k : ℕ) (rows : List (ℕ × ℕ)) (ps : Pairs) (turn : refs ≡ sorted_references rows) (valid : ArePairs ps) (spell : SpellPairs f rows ps) where
   count : length refs / 2 ≡ length rows
   count =
-      let sum = ap length turn ∙ length-append (keys_in rows) (values_in rows) in
       let keys : length (keys_in rows) ≡ length rows = length-map rows (λ row. row.0) in
       let values : length (values_in rows) ≡ length rows = length-map rows (λ row. row.1) in
-      omega arith
+      omega (arith, ap length turn ∙ length-append (keys_in rows) (values_in rows))
 
   turn_key : k < length rows → get_or refs k 0 ≡ get_or (keys_in rows) k 0
   turn_key h =
