@@ -1,4 +1,4 @@
-pub mod Judges
+pub mod Checks
 pub mod Occupied
 pub mod Filed
 pub mod Entries

@@ -18,7 +18,7 @@ use Rattle.plist_canon.specs.Rules.{HoldTexts, IsWellRead, HasAscendingKeys, IsN
 use Rattle.plist_canon.proofs.InOrder.{MeetsInOrder, AreBelow-none, AreInOrder-none, in_order}
 use Rattle.plist_write.proofs.Trees.{length-preorder, OccursAt-front, OccursAt-rest, OccursAt-tail, OccursAt-head, OccursAt-tree, OccursAt-all}
 use Rattle.plist_canon.proofs.KeptPositions.{is_made, count_below-end}
-use Rattle.plist_canon.proofs.Judges.{every_append}
+use Rattle.plist_canon.proofs.Checks.{every_append}
 use Rattle.plist_canon.proofs.Visiting.{Walks-append}
 use Rattle.std.proofs.lemmas.Bool.{cond_both, cases_lt, le-ltb}
 use Rattle.plist_write.proofs.Numbering.{count_below-none, first_position-le, first_position-holds, first_position-first, number-top}
@@ -51,20 +51,20 @@ module _ (f : List ℕ) (all : List Plist) (has : HasObjects f all) where
   abbrev IsListed : ℕ → Type 0
   IsListed reference = reference < (trailer_of f).count
 
-  listed_tree : (v : Plist) (k : ℕ) → OccursAt all k (preorder v) → IsListed (number_in all k)
-  listed_tree v k h = let at = OccursAt-tree v h in let holds = has.reads k v at.0 at.1 in holds.listed
+  tree_holds : (v : Plist) (k : ℕ) → OccursAt all k (preorder v) → Holds f (number_in all k) (held_at (number_in all) k v)
+  tree_holds v k h = let at = OccursAt-tree v h in has.reads k v at.0 at.1
 
   listed_items : (vs : Items) (k : ℕ) → OccursAt all k (preorder_items vs) → AllByRecursion IsListed (map (number_in all) (item_positions k vs))
   listed_items no_items k h = tt
   listed_items (item v vs) k h = (
-    listed_tree v k (OccursAt-front (preorder v) (preorder_items vs) h),
+    (tree_holds v k (OccursAt-front (preorder v) (preorder_items vs) h)).listed,
     listed_items vs (k + _) (OccursAt-rest (preorder v) (preorder_items vs) _ (length-preorder v) h),
   )
 
   listed_values : (ps : Pairs) (k : ℕ) → OccursAt all k (preorder_values ps) → AllByRecursion IsListed (map (number_in all) (value_positions k ps))
   listed_values no_pairs k h = tt
   listed_values (pair key v ps) k h = (
-    listed_tree v k (OccursAt-front (preorder v) (preorder_values ps) h),
+    (tree_holds v k (OccursAt-front (preorder v) (preorder_values ps) h)).listed,
     listed_values ps (k + _) (OccursAt-rest (preorder v) (preorder_values ps) _ (length-preorder v) h),
   )
 
@@ -84,24 +84,21 @@ module _ (f : List ℕ) (all : List Plist) (has : HasObjects f all) where
 
   well_read_at : (v : Plist) (k : ℕ) → OccursAt all k (preorder v) → IsWellRead f (number_in all k)
   well_read_at (scalar s) k h =
-      let at = OccursAt-tree (scalar s) h in
-      record { held = holds_scalar s; holds = has.reads k (scalar s) at.0 at.1; numbers = tt; texts = tt }
+      record { held = holds_scalar s; holds = tree_holds (scalar s) k h; numbers = tt; texts = tt }
   well_read_at (list vs) k h =
-      let at = OccursAt-tree (list vs) h in
       record {
         held = held_at (number_in all) k (list vs);
-        holds = has.reads k (list vs) at.0 at.1;
+        holds = tree_holds (list vs) k h;
         numbers = listed_items vs (suc k) (OccursAt-tail (list vs) (preorder_items vs) h);
         texts = tt;
       }
   well_read_at (table ps) k h =
-      let at = OccursAt-tree (table ps) h in
       let below = OccursAt-tail (table ps) (key_texts ps ++ preorder_values ps) h in
       let keys = OccursAt-front (key_texts ps) (preorder_values ps) below in
       let values = OccursAt-rest (key_texts ps) (preorder_values ps) (length (key_texts ps)) refl below in
       record {
         held = held_at (number_in all) k (table ps);
-        holds = has.reads k (table ps) at.0 at.1;
+        holds = tree_holds (table ps) k h;
         numbers = every_append IsListed (map (number_in all) (key_positions (suc k) ps)) (map (number_in all) (value_positions (suc k + length (key_texts ps)) ps)) (listed_keys ps (suc k) keys) (listed_values ps (suc k + length (key_texts ps)) values);
         texts = keys_hold ps (suc k) keys;
       }
@@ -124,16 +121,13 @@ module _ (f : List ℕ) (all : List Plist) (has : HasObjects f all) where
 
   ascending_at : (v : Plist) (k : ℕ) → OccursAt all k (preorder v) → IsPlist v → HasAscendingKeys f (number_in all k)
   ascending_at (scalar s) k h valid keys values texts reads named =
-      let at = OccursAt-tree (scalar s) h in
-      let holds = (has.reads k (scalar s) at.0 at.1).reads in
+      let holds = (tree_holds (scalar s) k h).reads in
       absurd (let e : Ok (holds_scalar s) ≡ Ok (holds_table keys values) = sym holds ∙ reads in cc)
   ascending_at (list vs) k h valid keys values texts reads named =
-      let at = OccursAt-tree (list vs) h in
-      let holds = (has.reads k (list vs) at.0 at.1).reads in
+      let holds = (tree_holds (list vs) k h).reads in
       absurd (let e : Ok (holds_list (map (number_in all) (item_positions (suc k) vs))) ≡ Ok (holds_table keys values) = sym holds ∙ reads in cc)
   ascending_at (table ps) k h valid keys values texts reads named =
-      let at = OccursAt-tree (table ps) h in
-      let holds = (has.reads k (table ps) at.0 at.1).reads in
+      let holds = (tree_holds (table ps) k h).reads in
       let e : Ok (held_at (number_in all) k (table ps)) ≡ Ok (holds_table keys values) = sym holds ∙ reads in
       let same : keys ≡ map (number_in all) (key_positions (suc k) ps) = cc in
       let below = OccursAt-tail (table ps) (key_texts ps ++ preorder_values ps) h in
@@ -202,26 +196,23 @@ module _ (f : List ℕ) (all : List Plist) (has : HasObjects f all) where
   walk_keys : (ps : Pairs) (k : ℕ) → OccursAt all k (key_texts ps) → Walks f (map (number_in all) (key_positions k ps)) (entries_of (number_in all) k (key_texts ps))
   walk_keys no_pairs k h = end
   walk_keys (pair key v ps) k h =
-      let at = OccursAt-head (scalar (text key)) (key_texts ps) h in
       let others = walk_keys ps (suc k) (OccursAt-tail (scalar (text key)) (key_texts ps) h) in
-      let first = visit (number_in all k) (holds_scalar (text key)) [] (has.reads k (scalar (text key)) at.0 at.1) end in
+      let first = visit (number_in all k) (holds_scalar (text key)) [] (key_holds f all has key (key_texts ps) k h) end in
       step (number_in all k) (map (number_in all) (key_positions (suc k) ps)) (number_in all k ∷ []) (entries_of (number_in all) (suc k) (key_texts ps)) first others
 
   mutual
     walk_tree : (v : Plist) (k : ℕ) → OccursAt all k (preorder v) → Walk f (number_in all k) (entries_of (number_in all) k (preorder v))
     walk_tree (scalar s) k h =
-        let at = OccursAt-tree (scalar s) h in visit (number_in all k) (holds_scalar s) [] (has.reads k (scalar s) at.0 at.1) end
+        visit (number_in all k) (holds_scalar s) [] (tree_holds f all has (scalar s) k h) end
     walk_tree (list vs) k h =
-        let at = OccursAt-tree (list vs) h in
-        visit (number_in all k) (held_at (number_in all) k (list vs)) (entries_of (number_in all) (suc k) (preorder_items vs)) (has.reads k (list vs) at.0 at.1) (walk_items vs (suc k) (OccursAt-tail (list vs) (preorder_items vs) h))
+        visit (number_in all k) (held_at (number_in all) k (list vs)) (entries_of (number_in all) (suc k) (preorder_items vs)) (tree_holds f all has (list vs) k h) (walk_items vs (suc k) (OccursAt-tail (list vs) (preorder_items vs) h))
     walk_tree (table ps) k h =
-        let at = OccursAt-tree (table ps) h in
         let below = OccursAt-tail (table ps) (key_texts ps ++ preorder_values ps) h in
         let start = suc k + length (key_texts ps) in
         let keys = walk_keys ps (suc k) (OccursAt-front (key_texts ps) (preorder_values ps) below) in
         let values = walk_values ps start (OccursAt-rest (key_texts ps) (preorder_values ps) (length (key_texts ps)) refl below) in
         let both = Walks-append f (map (number_in all) (key_positions (suc k) ps)) (map (number_in all) (value_positions start ps)) (entries_of (number_in all) (suc k) (key_texts ps)) (entries_of (number_in all) start (preorder_values ps)) keys values in
-        visit (number_in all k) (held_at (number_in all) k (table ps)) (entries_of (number_in all) (suc k) (key_texts ps ++ preorder_values ps)) (has.reads k (table ps) at.0 at.1)
+        visit (number_in all k) (held_at (number_in all) k (table ps)) (entries_of (number_in all) (suc k) (key_texts ps ++ preorder_values ps)) (tree_holds f all has (table ps) k h)
         (subst (Walks f (map (number_in all) (key_positions (suc k) ps) ++ map (number_in all) (value_positions start ps))) (sym (entries-append (number_in all) (suc k) (key_texts ps) (preorder_values ps))) both)
 
     walk_items : (vs : Items) (k : ℕ) → OccursAt all k (preorder_items vs) → Walks f (map (number_in all) (item_positions k vs)) (entries_of (number_in all) k (preorder_items vs))
@@ -256,19 +247,16 @@ module _ (f : List ℕ) (all : List Plist) (has : HasObjects f all) where
       let first = first_position all k v in
       let holds = first_position-holds all k v at in
       let counted = count-kept all first v holds (omega arith) (first_position-first all k v) in
-      let grows = count-grows (suc first) k (kept_positions all) before in
-      let is = number_at k v at in
-      omega arith
+      omega (arith, number_at k v at, count-grows (suc first) k (kept_positions all) before)
 
   meets_from : (rest : List Plist) (k : ℕ) → OccursAt all k rest → k + length rest ≡ length all → MeetsInOrder f (count_below k (kept_positions all)) (entries_of (number_in all) k rest) (length (kept_positions all))
   meets_from [] k h end_is = count_below-end all all 0 k (omega arith)
   meets_from (v ∷ rest) k h end_is =
       let at = OccursAt-head v rest h in
       let others = meets_from rest (suc k) (OccursAt-tail v rest h) (omega arith) in
-      let most = first_position-le all k v at.0 in
       elim (cases_lt (first_position all k v) k) [
         | inl before ↦ (let still = count-shared all k v at.0 at.1 before in inr (shared_below v k at.0 at.1 before, shared_scalar v k at.0 at.1 before, rw still at others))
-        | inr own ↦ (let own_place : first_position all k v ≡ k = omega arith in let next = count-kept all k v at.0 at.1 own_place in inl (number_at k v at.0 ∙ ap (λ n. count_below n (kept_positions all)) own_place, rw next at others))
+        | inr own ↦ (let own_place : first_position all k v ≡ k = omega (arith, first_position-le all k v at.0) in let next = count-kept all k v at.0 at.1 own_place in inl (number_at k v at.0 ∙ ap (λ n. count_below n (kept_positions all)) own_place, rw next at others))
       ]
 
 -- the walk from the root of a tree

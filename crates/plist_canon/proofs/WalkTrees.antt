@@ -18,7 +18,7 @@ use Rattle.plist_write.proofs.Sizes.{item_count}
 use Rattle.plist_write.proofs.Spelled.{Spells-tree}
 use Rattle.plist_object.proofs.Uniqueness.{same_held}
 use Rattle.plist_object.proofs.HeldRanges.{Holds-held}
-use Rattle.plist_canon.proofs.Judges.{texts_of}
+use Rattle.plist_canon.proofs.Checks.{texts_of}
 use Rattle.plist_canon.proofs.Entries.{AreNumbers, PositionsHold, AreNumbers-front, AreNumbers-rest, AreNumbers-own, PositionsHold-append, PositionsHold-at, pairs_of, put_texts, key_texts-pairs_of, preorder-pairs_of, positions-pairs_of, AreItems-put_texts, ArePairs-pairs_of}
 
 -- The walk from object i visits these entries, and they are those of this value: with the entries
@@ -58,19 +58,18 @@ no_items-walked f = record {
 
 item-walked : (f : List ℕ) (i : ℕ) (refs entries others : List ℕ) → WalkedTree f i entries → WalkedItems f refs others → WalkedItems f (i ∷ refs) (entries ++ others)
 item-walked f i refs entries others x xs =
-    let size = length-preorder x.value in
     let long = x.long in
     record {
       items = item x.value xs.items;
       valid = (x.valid, xs.valid);
-      long = omega (arith, x.long, xs.long, length-append (preorder x.value) (preorder_items xs.items), length-append entries others);
+      long = omega (arith, length-preorder x.value, x.long, xs.long, length-append (preorder x.value) (preorder_items xs.items), length-append entries others);
       named = λ number k h.
           let first = x.top number k (AreNumbers-front number k entries others h) in
-          let later = xs.named number (k + nodes x.value) (AreNumbers-rest number k (k + nodes x.value) entries others (omega arith) h) in
+          let later = xs.named number (k + nodes x.value) (AreNumbers-rest number k (k + nodes x.value) entries others (omega (arith, length-preorder x.value)) h) in
           rw (first, later) refl;
       reads = λ number k h.
           let first = x.reads number k (AreNumbers-front number k entries others h) in
-          let later = xs.reads number (k + length (preorder x.value)) (AreNumbers-rest number k (k + length (preorder x.value)) entries others (omega arith) h) in
+          let later = xs.reads number (k + length (preorder x.value)) (AreNumbers-rest number k (k + length (preorder x.value)) entries others (omega (arith, length-preorder x.value)) h) in
           PositionsHold-append f number k (k + length (preorder x.value)) (preorder x.value) (preorder_items xs.items) refl first later;
       same_scalars = (x.same_scalar, xs.same_scalars);
     }

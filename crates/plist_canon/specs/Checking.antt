@@ -12,8 +12,8 @@ use Rattle.plist_canon.specs.declared.checking.CheckFault.{CheckFault}
 use Rattle.plist_canon.specs.declared.checking.CheckFault.TheVariants as fault
 use Rattle.plist_canon.specs.declared.checking.Verdict.{Verdict}
 use Rattle.plist_canon.specs.declared.checking.Verdict.TheVariants as verdict
-use Rattle.plist_canon.specs.declared.judging.Flaw.{Flaw}
-use Rattle.plist_canon.specs.declared.judging.Flaw.TheVariants as flaw
+use Rattle.plist_canon.specs.declared.object_rules.Flaw.{Flaw}
+use Rattle.plist_canon.specs.declared.object_rules.Flaw.TheVariants as flaw
 use Rattle.plist_canon.specs.declared.rule.Rule.{Rule}
 use Rattle.plist_canon.specs.declared.rule.Rule.TheVariants as rules
 
@@ -52,14 +52,6 @@ earlier (flaw.Broken rule object) flaw.NoMemory = flaw.NoMemory
 earlier (flaw.Broken rule object) (flaw.Broken other first) =
     if nat_lt first object then flaw.Broken other first else flaw.Broken rule object
 
--- each object can be decoded, with valid references
-abbrev pub AllRead : List ℕ → Type 0
-AllRead f = (i : ℕ) → i < (trailer_of f).count → IsWellRead f i
-
--- the keys of each dictionary ascend
-abbrev pub AllAscend : List ℕ → Type 0
-AllAscend f = (i : ℕ) → i < (trailer_of f).count → HasAscendingKeys f i
-
 -- the references are numbers of objects, and those to keys point to strings
 pub record RefersWell (f : List ℕ) (held : Content) : Type 0 where
   pub numbers : AllByRecursion (λ reference. reference < (trailer_of f).count) (references_of held)
@@ -78,7 +70,7 @@ pub record Follows (f : List ℕ) (i : ℕ) : Type 0 where
   pub span : span_of f i ≡ Ok (offset, end)
 
 -- the rules about one object alone hold, except for the offset of the offset table
-pub record IsJudged (f : List ℕ) (i : ℕ) : Type 0 where
+pub record IsChecked (f : List ℕ) (i : ℕ) : Type 0 where
   pub read : IsWellRead f i
   pub follows : Follows f i
   pub spelled : IsSpelledCanonically f i

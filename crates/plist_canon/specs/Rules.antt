@@ -37,10 +37,14 @@ pub record IsWellRead (f : List ℕ) (i : ℕ) : Type 0 where
   pub numbers : AllByRecursion (λ reference. reference < (trailer_of f).count) (references_of held)
   pub texts : AllByRecursion (HoldsText f) (keys_of held)
 
+-- it holds of each object of the file
+abbrev pub Each : (List ℕ → ℕ → Type 0) → List ℕ → Type 0
+Each holds f = (i : ℕ) → i < (trailer_of f).count → holds f i
+
 -- C0: every object can be decoded, with valid references, and the value of object 0 is within the
 -- limits.
 pub record ReadsWithinLimits (f : List ℕ) : Type 0 where
-  pub read : (i : ℕ) → i < (trailer_of f).count → IsWellRead f i
+  pub read : Each IsWellRead f
   pub fits : (v : Plist) → IsPlist v → Spells f 0 v → Fits v
 
 -- C1: the first six bytes of the trailer are zero, and the top object is 0.
@@ -111,10 +115,10 @@ pub record FollowsRules (f : List ℕ) : Type 0 where
   pub reads_within_limits : ReadsWithinLimits f
   pub plain_trailer : HasPlainTrailer f
   pub least_widths : HasLeastWidths f
-  pub adjoins : (i : ℕ) → i < (trailer_of f).count → Adjoins f i
-  pub spelled_canonically : (i : ℕ) → i < (trailer_of f).count → IsSpelledCanonically f i
-  pub ascending_keys : (i : ℕ) → i < (trailer_of f).count → HasAscendingKeys f i
-  pub no_repeat : (i : ℕ) → i < (trailer_of f).count → IsNoRepeat f i
+  pub adjoins : Each Adjoins f
+  pub spelled_canonically : Each IsSpelledCanonically f
+  pub ascending_keys : Each HasAscendingKeys f
+  pub no_repeat : Each IsNoRepeat f
   pub numbered_in_preorder : IsNumberedInPreorder f
 
 -- A reference that the walk has still to follow, with the object that contains it.

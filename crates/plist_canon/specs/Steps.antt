@@ -15,7 +15,7 @@ use Rattle.plist_canon.specs.declared.preorder.Visit.{Visit}
 use Rattle.plist_canon.specs.declared.preorder.Walk.{Walk}
 use Rattle.plist_canon.specs.declared.weights.Weight.{Weight}
 use Rattle.plist_canon.specs.Rules.{IsNumberedInPreorder, IsBroken}
-use Rattle.plist_canon.specs.Checking.{AllRead, AllAscend}
+use Rattle.plist_canon.specs.Rules.{Each, IsWellRead, HasAscendingKeys}
 use Rattle.plist_canon.specs.Weights.{container, weight_of, is_scalar_weight, AreWeights}
 use Rattle.plist_canon.specs.Preorders.{IsWalking, Group, grouped, groups_of, references_left}
 use Rattle.plist_canon.specs.Preorders.{frame_group, path_groups}
@@ -25,7 +25,7 @@ use Rattle.plist_canon.specs.Remaining.{HasLeft, TakesLeft}
 pub record HasVisited (f : List ℕ) (seen : ℕ) (left : Option Budget)
     (groups : List Group) : Type 0 where
   pub walking : IsWalking f seen (references_left groups)
-  pub limits : AreOctets f → AllAscend f → HasLeft f groups left
+  pub limits : AreOctets f → Each HasAscendingKeys f → HasLeft f groups left
 
 -- the reference points to a visited scalar, if these are the weights of the visited objects
 pub record SkipsScalar (weights : List Weight) (levels i : ℕ)
@@ -102,8 +102,8 @@ Walked f i walk = MatchOption walk.broken_at (SeenInTurn f i walk) (λ holder. I
 pub record WalkedAll (f : List ℕ) (walk : Walk) : Type 0 where
   pub some : 0 < (trailer_of f).count
   pub octets : AreOctets f
-  pub read : AllRead f
-  pub ascending : AllAscend f
+  pub read : Each IsWellRead f
+  pub ascending : Each HasAscendingKeys f
   pub walked : Walked f (trailer_of f).count walk
 
 -- The walk visits all objects in order, and the value of object 0 is within the limits.

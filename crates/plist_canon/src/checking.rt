@@ -8,7 +8,8 @@ ghost use Rattle.plist_canon.specs.Locality.{IsCanonical};
 ghost use Rattle.plist_canon.specs.Checking.{IsCheckFault, IsFlaw, IsVerdict};
 ghost use Rattle.plist_canon.specs.Codes.{check_code, check_report};
 
-use crate::judging::{Flaw, judge_objects, judge_trailer};
+use crate::object_rules::{Flaw, check_objects, check_trailer};
+use crate::objects::Input;
 use plist_object::{BinFile, LayoutFault};
 use plist_value::{FixedHasher, Place, Refusal, Report};
 use std::alloc::Global;
@@ -148,7 +149,7 @@ pub fn check_with_hasher<S: BuildHasher + Copy>(
         (λ verdict. (verdict ≡ Verdict.Canonical) ↔ IsCanonical octets.now) }
 {
     let file = BinFile::of(octets)?;
-    match judge(alloc, hasher, octets, &file) {
+    match check_rules(alloc, hasher, octets, file) {
         Ok(()) => Ok(Verdict::Canonical),
         Err(Flaw::Broken { rule, object }) => Ok(Verdict::Broken {
             rule: rule.number(),
@@ -159,18 +160,23 @@ pub fn check_with_hasher<S: BuildHasher + Copy>(
 }
 
 // Returns the first broken rule as an error.
-fn judge<'a, S: BuildHasher + Copy>(
+fn check_rules<'a, S: BuildHasher + Copy>(
     alloc: Global,
     hasher: S,
     octets: &'a [u8],
-    file: &BinFile<'a>,
+    file: BinFile<'a>,
 ) -> Result<(), Flaw>
-    requires same { octets.now ≡ octets_of file.now }
-    requires valid { AreOctets (octets_of file.now) }
-    ensures ok { OnOk result (FollowsRules (octets_of file.now)) }
-    ensures err { IfErr result (IsFlaw (octets_of file.now)) }
+    requires same { octets.now ≡ octets_of file }
+    requires valid { AreOctets (octets_of file) }
+    ensures ok { OnOk result (FollowsRules (octets_of file.entry)) }
+    ensures err { IfErr result (IsFlaw (octets_of file.entry)) }
 {
-    judge_trailer(file)?;
+    check_trailer(&file)?;
     let objects = &octets[..file.table() as usize];
-    judge_objects(alloc, hasher, objects, file)?.finish()
+    let input = Input {
+        alloc,
+        file,
+        objects,
+    };
+    check_objects(&input, hasher)?.finish()
 }

@@ -3,8 +3,8 @@
 #![tactic(auto)]
 
 pub mod checking;
-mod judging;
 pub mod laws;
+mod object_rules;
 mod objects;
 mod offsets;
 mod preorder;

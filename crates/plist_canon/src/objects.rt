@@ -1,5 +1,5 @@
-//! The contents of objects.
-ghost use Rattle.std.specs.Prelude.{◌<◌, IfSome, IfNone};
+//! A file that is checked, and the contents of its objects.
+ghost use Rattle.std.specs.Prelude.{◌≡◌, ◌<◌, IfSome, IfNone, take};
 ghost use Rattle.plist_value.specs.Plist.{Scalar};
 ghost use Rattle.plist_value.specs.Scalars.{content_of};
 ghost use Rattle.plist_object.specs.Layout.{trailer_of};
@@ -8,6 +8,16 @@ ghost use Rattle.plist_write.specs.RepeatFilter.{HoldsIt};
 
 use plist_object::{BinFile, Object};
 use plist_value::ScalarRef;
+use std::alloc::Global;
+
+// A file that is checked, the bytes before its offset table, and the allocator for what is kept.
+#[derive(Clone, Copy)]
+pub(crate) struct Input<'a> {
+    pub(crate) alloc: Global,
+    pub(crate) file: BinFile<'a>,
+    pub(crate) objects: &'a [u8],
+    ghost cut: { objects.now ≡ take (trailer_of (octets_of file)).table (octets_of file) },
+}
 
 // Returns the scalar that object `n` contains, if it is a scalar.
 pub(crate) fn scalar_of<'a>(file: &BinFile<'a>, n: u64) -> Option<ScalarRef<'a>>

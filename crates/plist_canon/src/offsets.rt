@@ -5,23 +5,23 @@ ghost use Rattle.plist_object.specs.Places.{span_of};
 ghost use Rattle.plist_object.specs.Views.{octets_of};
 ghost use Rattle.plist_canon.specs.Checking.{IsEndBefore, IsFlaw};
 
-use crate::judging::Flaw;
+use crate::object_rules::Flaw;
 use crate::rule::Rule;
 use plist_object::BinFile;
 
 // Validates that each object can be decoded and begins where its predecessor ends.
-pub(crate) fn judge_offsets(file: &BinFile) -> Result<(), Flaw>
+pub(crate) fn check_offsets(file: &BinFile) -> Result<(), Flaw>
     ensures { IfErr result (IsFlaw (octets_of file.now)) }
 {
     let mut end = 8;
     for i in 0..file.count() {
-        end = judge_offset(file, i, end)?;
+        end = check_offset(file, i, end)?;
     }
     Ok(())
 }
 
 // Validates that object `i` can be decoded and begins at `offset`, and returns where it ends.
-fn judge_offset(file: &BinFile, i: u64, offset: u64) -> Result<u64, Flaw>
+fn check_offset(file: &BinFile, i: u64, offset: u64) -> Result<u64, Flaw>
     requires listed { i < (trailer_of (octets_of file.now)).count }
     requires before { IsEndBefore (octets_of file.now) i offset }
     ensures ok { IfOk result (λ end. span_of (octets_of file.now) i ≡ Ok (offset, end)) }

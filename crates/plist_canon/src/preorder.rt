@@ -10,7 +10,7 @@ ghost use Rattle.plist_canon.specs.Remaining.{TakesLeft};
 ghost use Rattle.plist_canon.specs.Steps.{ComesToNext, FrameGoesOn, SkipsScalar, PathGoesOn};
 ghost use Rattle.plist_canon.specs.Steps.{Walked, WalkedAll, WalksWithinLimits};
 
-use crate::judging::Flaw;
+use crate::object_rules::Flaw;
 use crate::rule::Rule;
 use crate::weights::Weight;
 use plist_object::{Object, Refs};

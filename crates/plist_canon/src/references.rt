@@ -7,44 +7,43 @@ ghost use Rattle.plist_object.specs.Views.{held_of, numbers_of, octets_of};
 ghost use Rattle.plist_canon.specs.Rules.{HasAscendingKeys};
 ghost use Rattle.plist_canon.specs.Checking.{IsFlaw, RefersWell};
 
-use crate::judging::Flaw;
-use crate::offsets::judge_offsets;
+use crate::object_rules::Flaw;
+use crate::objects::Input;
+use crate::offsets::check_offsets;
 use crate::rule::Rule;
 use plist_keys::KeyOrder;
 use plist_object::{BinFile, Object, Refs};
-use std::alloc::Global;
 
 // Validates rule 0 for the references of object `i`, and returns whether rule 5 holds.
 #[inline(always)]
-pub(crate) fn judge_references<'a>(
-    alloc: Global,
-    file: &BinFile<'a>,
+pub(crate) fn check_references<'a>(
+    input: &Input<'a>,
     order: &mut KeyOrder<'a>,
     i: u64,
     object: &Object<'a>,
 ) -> Result<bool, Flaw>
-    requires ready { IsReady (octets_of file.now) order.old }
-    requires holds { Holds (octets_of file.now) i (held_of object.now) }
-    ensures refers { OnOk result (RefersWell (octets_of file.now) (held_of object.now)) }
+    requires ready { IsReady (octets_of input.now.file) order.old }
+    requires holds { Holds (octets_of input.now.file) i (held_of object.now) }
+    ensures refers { OnOk result (RefersWell (octets_of input.now.file) (held_of object.now)) }
     ensures ascend { IfOk result
-        (λ ascend. IsTrue ascend ↔ HasAscendingKeys (octets_of file.now) i) }
-    ensures ready { OnOk result (IsReady (octets_of file.now) order.new) }
-    ensures err { IfErr result (IsFlaw (octets_of file.now)) }
+        (λ ascend. IsTrue ascend ↔ HasAscendingKeys (octets_of input.now.file) i) }
+    ensures ready { OnOk result (IsReady (octets_of input.now.file) order.new) }
+    ensures err { IfErr result (IsFlaw (octets_of input.now.file)) }
 {
     match object {
         Object::Scalar(_) => Ok(true),
         Object::List(items) => {
-            judge_items(file, i, items)?;
+            check_items(&input.file, i, items)?;
             Ok(true)
         }
         Object::Table(keys, values) => {
-            let ascend = judge_pairs(alloc, file, order, i, keys, values)?;
+            let ascend = check_pairs(input, order, i, keys, values)?;
             Ok(ascend)
         }
     }
 }
 
-fn judge_items(file: &BinFile, i: u64, items: &Refs) -> Result<(), Flaw>
+fn check_items(file: &BinFile, i: u64, items: &Refs) -> Result<(), Flaw>
     requires holds { Holds (octets_of file.now) i (holds_list (numbers_of items.now)) }
     ensures refers { OnOk result
         (RefersWell (octets_of file.now) (holds_list (numbers_of items.now))) }
@@ -58,29 +57,29 @@ fn judge_items(file: &BinFile, i: u64, items: &Refs) -> Result<(), Flaw>
 
 // If objects overlap, comparing the keys could take long, so the first object out of place is
 // reported.
-fn judge_pairs<'a>(
-    alloc: Global,
-    file: &BinFile<'a>,
+fn check_pairs<'a>(
+    input: &Input<'a>,
     order: &mut KeyOrder<'a>,
     i: u64,
     keys: &Refs<'a>,
     values: &Refs,
 ) -> Result<bool, Flaw>
-    requires ready { IsReady (octets_of file.now) order.old }
-    requires holds { Holds (octets_of file.now) i
+    requires ready { IsReady (octets_of input.now.file) order.old }
+    requires holds { Holds (octets_of input.now.file) i
         (holds_table (numbers_of keys.now) (numbers_of values.now)) }
-    ensures refers { OnOk result (RefersWell (octets_of file.now)
+    ensures refers { OnOk result (RefersWell (octets_of input.now.file)
         (holds_table (numbers_of keys.now) (numbers_of values.now))) }
     ensures ascend { IfOk result
-        (λ ascend. IsTrue ascend ↔ HasAscendingKeys (octets_of file.now) i) }
-    ensures ready { OnOk result (IsReady (octets_of file.now) order.new) }
-    ensures err { IfErr result (IsFlaw (octets_of file.now)) }
+        (λ ascend. IsTrue ascend ↔ HasAscendingKeys (octets_of input.now.file) i) }
+    ensures ready { OnOk result (IsReady (octets_of input.now.file) order.new) }
+    ensures err { IfErr result (IsFlaw (octets_of input.now.file)) }
 {
+    let file = &input.file;
     if !are_below(values, file.count()) {
         return Err(Flaw::at(Rule::Readable, i));
     }
-    if !order.prepare(alloc, file, keys)? {
-        judge_offsets(file)?;
+    if !order.prepare(input.alloc, file, keys)? {
+        check_offsets(file)?;
     }
     if order.ascend(file, keys) {
         return Ok(true);

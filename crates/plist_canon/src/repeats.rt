@@ -7,7 +7,7 @@ ghost use Rattle.plist_canon.specs.Checking.{IsFlaw};
 ghost use Rattle.plist_write.specs.RepeatFilter.{AreAdded, HasAdded};
 ghost use Rattle.plist_canon.specs.Seen.{HasSeen};
 
-use crate::judging::Flaw;
+use crate::object_rules::Flaw;
 use crate::objects::scalar_of;
 use crate::rule::Rule;
 use plist_object::BinFile;
@@ -19,7 +19,7 @@ use std::hash::BuildHasher;
 const MOST: u64 = 4_294_967_295;
 
 // Validates rule 6 for the recorded objects. Decodes only those again that may repeat another.
-pub(crate) fn judge_repeats<S: BuildHasher + Copy>(
+pub(crate) fn check_repeats<S: BuildHasher + Copy>(
     alloc: Global,
     hasher: S,
     file: &BinFile,
@@ -34,14 +34,14 @@ pub(crate) fn judge_repeats<S: BuildHasher + Copy>(
     let filter = builder.build(alloc)?;
     let mut seen = ScalarNumbers::new(alloc, hasher, filter.len());
     for i in 0..filter.len() {
-        judge_repeat(file, &filter, i, &mut seen)?;
+        check_repeat(file, &filter, i, &mut seen)?;
     }
     Ok(())
 }
 
 // Validates rule 6 for object `i`.
 #[inline(always)]
-fn judge_repeat<'a, S: BuildHasher + Copy>(
+fn check_repeat<'a, S: BuildHasher + Copy>(
     file: &BinFile<'a>,
     filter: &RepeatFilter,
     i: usize,

@@ -5,7 +5,7 @@ use Rattle.plist_canon.specs.Rules.{IsNoRepeat}
 use Rattle.plist_write.specs.RepeatFilter.{HasAdded}
 use Rattle.plist_canon.specs.Seen.{HasSeen}
 use Rattle.plist_keys.proofs.KeysInTurn.{below_or_last}
-use Rattle.plist_canon.proofs.repeats.judge_repeats.Goals as goal
+use Rattle.plist_canon.proofs.repeats.check_repeats.Goals as goal
 
 pub loop-i-init : goal.loop-i-init
 loop-i-init g c = record {
@@ -16,8 +16,8 @@ loop-i-init g c = record {
   };
 }
 
-pub judge_repeat-requires : goal.judge_repeat-requires
-judge_repeat-requires g c =
+pub check_repeat-requires : goal.check_repeat-requires
+check_repeat-requires g c =
     let f = octets_of c.args.file.now in
     let filter = c.in_ok-filter.filter in
     let added = c.in_ok-filter.ensures f (length c.args.builder.bits.items) c.requires.added in
@@ -33,8 +33,8 @@ loop-i-preserved g c =
     let f = octets_of c.args.file.now in
     let i = c.loop-i.i in
     record {
-      single = below_or_last (λ j. IsNoRepeat f j) i c.loop-i.invariant.single c.in_ok-judge_repeat.ensures.ok;
-      seen = subst (λ (n : ℕ). HasSeen c.in_ok-filter.filter f n c.judge_repeat.new.seen) (sym (add-one i)) c.in_ok-judge_repeat.ensures.seen;
+      single = below_or_last (λ j. IsNoRepeat f j) i c.loop-i.invariant.single c.in_ok-check_repeat.ensures.ok;
+      seen = subst (λ (n : ℕ). HasSeen c.in_ok-filter.filter f n c.check_repeat.new.seen) (sym (add-one i)) c.in_ok-check_repeat.ensures.seen;
     }
 
 pub returns-clause-ok : goal.returns-clause-ok

@@ -1,7 +1,7 @@
 use Rattle.std.proofs.Common.{ℕ, sym, subst, add-one}
 use Rattle.plist_object.specs.Views.{octets_of}
 use Rattle.plist_canon.specs.Checking.{IsEndBefore}
-use Rattle.plist_canon.proofs.offsets.judge_offsets.Goals as goal
+use Rattle.plist_canon.proofs.offsets.check_offsets.Goals as goal
 
 pub loop-i-preserved : goal.loop-i-preserved
 loop-i-preserved c =

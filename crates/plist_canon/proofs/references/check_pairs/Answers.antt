@@ -7,12 +7,12 @@ use Rattle.plist_keys.specs.Ascending.{AreAscending, AscendInTurn}
 use Rattle.plist_object.specs.Views.{numbers_of, octets_of}
 use Rattle.plist_keys.proofs.KeysInTurn.{refuted}
 use Rattle.plist_canon.specs.Rules.{breaks_c0}
-use Rattle.plist_canon.proofs.Judges.{HasAscendingKeys-turns, IsWellRead-refers, RefersWell-table, ascend-both, keys_named, values_below}
-use Rattle.plist_canon.proofs.references.judge_pairs.Goals as goal
+use Rattle.plist_canon.proofs.Checks.{HasAscendingKeys-turns, IsWellRead-refers, RefersWell-table, ascend-both, keys_named, values_below}
+use Rattle.plist_canon.proofs.references.check_pairs.Goals as goal
 
 pub returns-then-not-are_below-clause-err : goal.returns-then-not-are_below-clause-err
 returns-then-not-are_below-clause-err c =
-    let f = octets_of c.args.file.now in
+    let f = octets_of c.args.input.now.file in
     let keys = numbers_of c.args.keys.now in
     let values = numbers_of c.args.values.now in
     let none = refuted (EachIndex values (λ k. slice_index values k < c.count.result)) c.are_below.result c.are_below.ensures c.if-not-are_below.true in
@@ -20,7 +20,7 @@ returns-then-not-are_below-clause-err c =
 
 pub returns-then-ascend-clause-refers : goal.returns-then-ascend-clause-refers
 returns-then-ascend-clause-refers c =
-    let f = octets_of c.args.file.now in
+    let f = octets_of c.args.input.now.file in
     let keys = numbers_of c.args.keys.now in
     let values = numbers_of c.args.values.now in
     let below : EachIndex values (λ k. slice_index values k < (trailer_of f).count) = rw c.count.ensures at (c.are_below.ensures.0 c.if-not-are_below.false) in
@@ -29,14 +29,14 @@ returns-then-ascend-clause-refers c =
 
 pub returns-then-ascend-clause-ascend : goal.returns-then-ascend-clause-ascend
 returns-then-ascend-clause-ascend c =
-    let f = octets_of c.args.file.now in
+    let f = octets_of c.args.input.now.file in
     let keys = numbers_of c.args.keys.now in
     let ascending : AreAscending f keys = c.ascend.ensures.ascend.0 c.if-ascend.true in
     (λ yes. HasAscendingKeys-turns f c.args.i keys (numbers_of c.args.values.now) c.requires.holds ascending.ascend, λ has. refl)
 
 pub returns-then-not-name_texts-clause-err : goal.returns-then-not-name_texts-clause-err
 returns-then-not-name_texts-clause-err c =
-    let f = octets_of c.args.file.now in
+    let f = octets_of c.args.input.now.file in
     let keys = numbers_of c.args.keys.now in
     let values = numbers_of c.args.values.now in
     let none = refuted (NameTexts f keys) c.name_texts.result c.name_texts.ensures c.if-not-name_texts.true in
@@ -44,7 +44,7 @@ returns-then-not-name_texts-clause-err c =
 
 pub returns-clause-refers : goal.returns-clause-refers
 returns-clause-refers c =
-    let f = octets_of c.args.file.now in
+    let f = octets_of c.args.input.now.file in
     let keys = numbers_of c.args.keys.now in
     let values = numbers_of c.args.values.now in
     let below : EachIndex values (λ k. slice_index values k < (trailer_of f).count) = rw c.count.ensures at (c.are_below.ensures.0 c.if-not-are_below.false) in
@@ -53,7 +53,7 @@ returns-clause-refers c =
 
 pub returns-clause-ascend : goal.returns-clause-ascend
 returns-clause-ascend c =
-    let f = octets_of c.args.file.now in
+    let f = octets_of c.args.input.now.file in
     let keys = numbers_of c.args.keys.now in
     let values = numbers_of c.args.values.now in
     let names : NameTexts f keys = c.name_texts.ensures.0 c.if-not-name_texts.false in

@@ -4,7 +4,7 @@ use Rattle.plist_canon.specs.Rules.{breaks_c6}
 use Rattle.plist_write.specs.RepeatFilter.{MayRepeat}
 use Rattle.plist_keys.proofs.KeysInTurn.{refuted}
 use Rattle.plist_canon.proofs.Meeting.{seen-had, HasSeen-scalar, HasSeen-past, IsNoRepeat-apart, IsNoRepeat-new, not-IsNoRepeat}
-use Rattle.plist_canon.proofs.repeats.judge_repeat.Goals as goal
+use Rattle.plist_canon.proofs.repeats.check_repeat.Goals as goal
 
 pub returns-then-not-may_repeat-clause-ok : goal.returns-then-not-may_repeat-clause-ok
 returns-then-not-may_repeat-clause-ok g c =

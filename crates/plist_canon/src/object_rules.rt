@@ -1,21 +1,22 @@
 //! The rules about the trailer and about each object.
-ghost use Rattle.std.specs.Prelude.{◌≡◌, ◌↔◌, ◌<◌, ◌≤◌, ℕ, IsTrue, Ok, length};
-ghost use Rattle.std.specs.Prelude.{IfOk, IfErr, OnOk, take};
+ghost use Rattle.std.specs.Prelude.{◌≡◌, ◌↔◌, ◌<◌, ◌≤◌, IsTrue, Ok, length};
+ghost use Rattle.std.specs.Prelude.{IfOk, IfErr, OnOk};
 ghost use Rattle.plist_keys.specs.KeyOrder.{IsReady};
 ghost use Rattle.plist_object.specs.Layout.{trailer_of};
 ghost use Rattle.plist_object.specs.Objects.{IsContent};
 ghost use Rattle.plist_object.specs.Places.{Holds, span_of};
 ghost use Rattle.plist_object.specs.Views.{held_of, octets_of};
-ghost use Rattle.plist_canon.specs.Rules.{HasPlainTrailer, HasLeastWidths, Adjoins};
+ghost use Rattle.plist_canon.specs.Rules.{Each, HasPlainTrailer, HasLeastWidths, Adjoins};
 ghost use Rattle.plist_canon.specs.Rules.{IsSpelledCanonically, IsNoRepeat};
 ghost use Rattle.plist_canon.specs.Checking.{IsFlaw, earlier, IsEndBefore};
-ghost use Rattle.plist_canon.specs.Checking.{Follows, IsJudged};
+ghost use Rattle.plist_canon.specs.Checking.{Follows, IsChecked};
 ghost use Rattle.plist_write.specs.RepeatFilter.{AreAdded};
 ghost use Rattle.plist_canon.specs.Steps.{Walked};
 
+use crate::objects::Input;
 use crate::preorder::Walk;
-use crate::references::judge_references;
-use crate::repeats::judge_repeats;
+use crate::references::check_references;
+use crate::repeats::check_repeats;
 use crate::rule::Rule;
 use crate::visited::Visited;
 use plist_keys::KeyOrder;
@@ -32,7 +33,7 @@ pub(crate) enum Flaw {
 }
 
 impl Flaw {
-    ghost use Rattle.plist_canon.specs.declared.judging.Flaw.TheVariants.{Broken};
+    ghost use Rattle.plist_canon.specs.declared.object_rules.Flaw.TheVariants.{Broken};
 
     pub(crate) fn at(rule: Rule, object: u64) -> Flaw
         ensures { result ≡ Broken rule object }
@@ -54,7 +55,7 @@ impl Flaw {
 }
 
 impl From<AllocError> for Flaw {
-    ghost use Rattle.plist_canon.specs.declared.judging.Flaw.TheVariants.{NoMemory};
+    ghost use Rattle.plist_canon.specs.declared.object_rules.Flaw.TheVariants.{NoMemory};
 
     ghost from_gives = { λ _ flaw. flaw ≡ NoMemory };
 
@@ -64,7 +65,7 @@ impl From<AllocError> for Flaw {
 }
 
 impl<T: Drop> From<AllocFailed<T>> for Flaw {
-    ghost use Rattle.plist_canon.specs.declared.judging.Flaw.TheVariants.{NoMemory};
+    ghost use Rattle.plist_canon.specs.declared.object_rules.Flaw.TheVariants.{NoMemory};
 
     ghost from_gives = { λ _ flaw. flaw ≡ NoMemory };
 
@@ -74,7 +75,7 @@ impl<T: Drop> From<AllocFailed<T>> for Flaw {
 }
 
 // Validates rules 1 and 2: a plain trailer and the least widths.
-pub(crate) fn judge_trailer(file: &BinFile) -> Result<(), Flaw>
+pub(crate) fn check_trailer(file: &BinFile) -> Result<(), Flaw>
     ensures plain { OnOk result (HasPlainTrailer (octets_of file.now)) }
     ensures widths { OnOk result (HasLeastWidths (octets_of file.now)) }
     ensures err { IfErr result (IsFlaw (octets_of file.now)) }
@@ -103,35 +104,29 @@ fn has_least_widths(file: &BinFile) -> bool
 }
 
 // Validates rules 0, 3, 4, 5 and 6 for each object, except for the limits, and then the offset of
-// the offset table. `objects` are the bytes before that table. Returns the walk, which kept pace
-// with the objects.
-pub(crate) fn judge_objects<'a, S: BuildHasher + Copy>(
-    alloc: Global,
+// the offset table. Returns the walk, which kept pace with the objects.
+pub(crate) fn check_objects<'a, S: BuildHasher + Copy>(
+    input: &Input<'a>,
     hasher: S,
-    objects: &[u8],
-    file: &BinFile<'a>,
 ) -> Result<Walk<'a>, Flaw>
-    requires { objects.now ≡ take (trailer_of (octets_of file.now)).table (octets_of file.now) }
-    ensures judged { OnOk result
-        ((i : ℕ) → i < (trailer_of (octets_of file.now)).count → IsJudged (octets_of file.now) i) }
-    ensures single { OnOk result ((i : ℕ)
-        → i < (trailer_of (octets_of file.now)).count → IsNoRepeat (octets_of file.now) i) }
-    ensures adjoin { OnOk result
-        ((i : ℕ) → i < (trailer_of (octets_of file.now)).count → Adjoins (octets_of file.now) i) }
-    ensures walked { IfOk result
-        (Walked (octets_of file.now) (trailer_of (octets_of file.now)).count) }
-    ensures err { IfErr result (IsFlaw (octets_of file.now)) }
+    ensures checked { OnOk result (Each IsChecked (octets_of input.now.file)) }
+    ensures single { OnOk result (Each IsNoRepeat (octets_of input.now.file)) }
+    ensures adjoin { OnOk result (Each Adjoins (octets_of input.now.file)) }
+    ensures walked { IfOk result (Walked (octets_of input.now.file)
+        (trailer_of (octets_of input.now.file)).count) }
+    ensures err { IfErr result (IsFlaw (octets_of input.now.file)) }
 {
+    let (alloc, file) = (input.alloc, &input.file);
     let mut visited = Visited::new(alloc, &hasher, file)?;
     let mut order = KeyOrder::new(alloc, file);
     for i in 0..file.count() {
-        match judge_object(alloc, objects, file, &mut order, i, visited.end) {
+        match check_object(input, &mut order, i, visited.end) {
             Ok(read) => visited.take(&read)?,
             Err(flaw) => return Err(first_flaw(alloc, hasher, file, visited.builder, flaw)),
         }
     }
-    judge_repeats(alloc, hasher, file, visited.builder)?;
-    judge_table(file, visited.end)?;
+    check_repeats(alloc, hasher, file, visited.builder)?;
+    check_table(file, visited.end)?;
     Ok(visited.walk)
 }
 
@@ -148,20 +143,18 @@ fn first_flaw<S: BuildHasher + Copy>(
     requires flaw { IsFlaw (octets_of file.now) flaw }
     ensures { IsFlaw (octets_of file.now) result }
 {
-    match judge_repeats(alloc, hasher, file, builder) {
+    match check_repeats(alloc, hasher, file, builder) {
         Err(repeat) => flaw.or_earlier(repeat),
         Ok(()) => flaw,
     }
 }
 
 // Validates rule 3 at the last object: the offset table begins where the objects end.
-fn judge_table(file: &BinFile, end: u64) -> Result<(), Flaw>
-    requires follows { (i : ℕ) → i < (trailer_of (octets_of file.now)).count
-        → Follows (octets_of file.now) i }
+fn check_table(file: &BinFile, end: u64) -> Result<(), Flaw>
+    requires follows { Each Follows (octets_of file.now) }
     requires ends { IsEndBefore (octets_of file.now)
         (trailer_of (octets_of file.now)).count end }
-    ensures adjoin { OnOk result
-        ((i : ℕ) → i < (trailer_of (octets_of file.now)).count → Adjoins (octets_of file.now) i) }
+    ensures adjoin { OnOk result (Each Adjoins (octets_of file.now)) }
     ensures err { IfErr result (IsFlaw (octets_of file.now)) }
 {
     if end != file.table() {
@@ -173,31 +166,27 @@ fn judge_table(file: &BinFile, end: u64) -> Result<(), Flaw>
 // Validates all rules but 6 for object `i` and returns its content; `offset` is the end of its
 // predecessor.
 #[inline(always)]
-fn judge_object<'a>(
-    alloc: Global,
-    objects: &[u8],
-    file: &BinFile<'a>,
+fn check_object<'a>(
+    input: &Input<'a>,
     order: &mut KeyOrder<'a>,
     i: u64,
     offset: u64,
 ) -> Result<Spanned<'a>, Flaw>
-    requires objects { objects.now
-        ≡ take (trailer_of (octets_of file.now)).table (octets_of file.now) }
-    requires ready { IsReady (octets_of file.now) order.old }
-    requires listed { i < (trailer_of (octets_of file.now)).count }
-    requires before { IsEndBefore (octets_of file.now) i offset }
-    ensures judged { OnOk result (IsJudged (octets_of file.now) i) }
-    ensures holds { IfOk result (λ read. Holds (octets_of file.now) i (held_of read.object)) }
+    requires ready { IsReady (octets_of input.now.file) order.old }
+    requires listed { i < (trailer_of (octets_of input.now.file)).count }
+    requires before { IsEndBefore (octets_of input.now.file) i offset }
+    ensures checked { OnOk result (IsChecked (octets_of input.now.file) i) }
+    ensures holds { IfOk result (λ read. Holds (octets_of input.now.file) i (held_of read.object)) }
     ensures span { IfOk result
-        (λ read. span_of (octets_of file.now) i ≡ Ok (read.start, read.end)) }
-    ensures ready { OnOk result (IsReady (octets_of file.now) order.new) }
-    ensures err { IfErr result (IsFlaw (octets_of file.now)) }
+        (λ read. span_of (octets_of input.now.file) i ≡ Ok (read.start, read.end)) }
+    ensures ready { OnOk result (IsReady (octets_of input.now.file) order.new) }
+    ensures err { IfErr result (IsFlaw (octets_of input.now.file)) }
 {
-    let Ok(read) = file.spanned(i) else {
+    let Ok(read) = input.file.spanned(i) else {
         return Err(Flaw::at(Rule::Readable, i));
     };
-    let ascend = judge_references(alloc, file, order, i, &read.object)?;
-    judge_encoding(objects, file, i, offset, &read)?;
+    let ascend = check_references(input, order, i, &read.object)?;
+    check_encoding(input, i, offset, &read)?;
     if !ascend {
         return Err(Flaw::at(Rule::AscendingKeys, i));
     }
@@ -207,27 +196,19 @@ fn judge_object<'a>(
 // Validates rules 3 and 4 for object `i`, decoded as `read`; `offset` is the end of its
 // predecessor.
 #[inline(always)]
-fn judge_encoding(
-    objects: &[u8],
-    file: &BinFile,
-    i: u64,
-    offset: u64,
-    read: &Spanned,
-) -> Result<(), Flaw>
-    requires objects { objects.now
-        ≡ take (trailer_of (octets_of file.now)).table (octets_of file.now) }
-    requires before { IsEndBefore (octets_of file.now) i offset }
-    requires holds { Holds (octets_of file.now) i (held_of read.now.object) }
-    requires span { span_of (octets_of file.now) i ≡ Ok (read.now.start, read.now.end) }
+fn check_encoding(input: &Input, i: u64, offset: u64, read: &Spanned) -> Result<(), Flaw>
+    requires before { IsEndBefore (octets_of input.now.file) i offset }
+    requires holds { Holds (octets_of input.now.file) i (held_of read.now.object) }
+    requires span { span_of (octets_of input.now.file) i ≡ Ok (read.now.start, read.now.end) }
     requires valid { IsContent (held_of read.now.object) }
-    ensures follows { OnOk result (Follows (octets_of file.now) i) }
-    ensures spelled { OnOk result (IsSpelledCanonically (octets_of file.now) i) }
-    ensures err { IfErr result (IsFlaw (octets_of file.now)) }
+    ensures follows { OnOk result (Follows (octets_of input.now.file) i) }
+    ensures spelled { OnOk result (IsSpelledCanonically (octets_of input.now.file) i) }
+    ensures err { IfErr result (IsFlaw (octets_of input.now.file)) }
 {
     if read.start != offset {
         return Err(Flaw::at(Rule::Adjoining, i));
     }
-    if !begins_canonically(&objects[offset as usize..], &read.object) {
+    if !begins_canonically(&input.objects[offset as usize..], &read.object) {
         return Err(Flaw::at(Rule::CanonicalEncoding, i));
     }
     Ok(())

@@ -4,8 +4,8 @@ use Rattle.plist_object.specs.Objects.{holds_list}
 use Rattle.plist_object.specs.Views.{numbers_of, octets_of}
 use Rattle.plist_keys.proofs.KeysInTurn.{refuted}
 use Rattle.plist_canon.specs.Rules.{breaks_c0}
-use Rattle.plist_canon.proofs.Judges.{IsWellRead-refers, RefersWell-list}
-use Rattle.plist_canon.proofs.references.judge_items.Goals as goal
+use Rattle.plist_canon.proofs.Checks.{IsWellRead-refers, RefersWell-list}
+use Rattle.plist_canon.proofs.references.check_items.Goals as goal
 
 pub returns-then-not-are_below-clause-err : goal.returns-then-not-are_below-clause-err
 returns-then-not-are_below-clause-err c =

@@ -2,8 +2,8 @@ use Rattle.std.proofs.Common.{◌≡◌, Ok, sym, ◌∙◌}
 use Rattle.plist_object.specs.Views.{octets_of}
 use Rattle.plist_object.specs.Places.{span_of}
 use Rattle.plist_canon.specs.Rules.{breaks_c0, breaks_c3}
-use Rattle.plist_canon.proofs.Judges.{not-Adjoins, unspanned}
-use Rattle.plist_canon.proofs.offsets.judge_offset.Goals as goal
+use Rattle.plist_canon.proofs.Checks.{not-Adjoins, unspanned}
+use Rattle.plist_canon.proofs.offsets.check_offset.Goals as goal
 
 pub returns-in_default-clause-err : goal.returns-in_default-clause-err
 returns-in_default-clause-err c =
