@@ -35,8 +35,7 @@ starts-last : (k : ℕ) (objects : List (List ℕ)) (i : ℕ) → suc i ≡ leng
 starts-last k (o ∷ []) zero h = rw length-append (omega arith)
 starts-last k (o ∷ p ∷ os) (suc i) h =
     let others = starts-last (k + length o) (p ∷ os) i (omega arith) in
-    let whole = length-append o (concat (p ∷ os)) in
-    omega arith
+    omega (arith, length-append o (concat (p ∷ os)))
 starts-last k _ _ h = absurd (omega arith)
 
 slack-ended : (front tail : List ℕ) → length tail ≡ 32 → slack_of (front ++ tail) ≡ take 6 tail
@@ -114,18 +113,15 @@ module _ (objects : List (List ℕ)) (some : 1 ≤ length objects)
       let entries = references (least_width table_place) (starts 8 objects) in
       let tail = trailer_octets (length objects) table_place in
       let x = is_piece 8 objects i h in
-      let within = x.within in
       let start = x.start in
-      let size = each i h in
       let place = place_of-file objects some each count_fits table_fits i h ∙ start in
       let front : take table_place (file_of objects) ≡ header ++ concat objects = ap (take table_place) (before_table header (concat objects) entries tail) ∙ take_at (header ++ concat objects) (entries ++ tail) table_place (length-append header (concat objects)) in
       let stands : drop (8 + x.before) (take table_place (file_of objects)) ≡ get_or objects i [] ++ x.behind = ap (drop (8 + x.before)) front ∙ sym (drop-drop x.before 8 (header ++ concat objects)) ∙ x.stands in
       let long : length (drop x.before (concat objects)) ≡ length (get_or objects i []) + length x.behind = ap length x.stands ∙ length-append (get_or objects i []) x.behind in
-      let left = length-drop x.before (concat objects) in
       record {
         behind = x.behind;
-        octets = octets_at-is (file_of objects) i (8 + x.before) table_place _ table_is place (omega arith) (omega arith) stands;
-        ends = omega arith;
+        octets = octets_at-is (file_of objects) i (8 + x.before) table_place _ table_is place (omega (arith, length-drop x.before (concat objects), each i h, x.within)) (omega (arith, length-drop x.before (concat objects), each i h, x.within)) stands;
+        ends = omega (arith, length-drop x.before (concat objects), each i h, x.within);
       }
 
   -- the bytes of each object encode its content, whatever follows it

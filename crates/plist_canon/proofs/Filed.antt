@@ -81,15 +81,12 @@ module _ (f : List ℕ) (octets : AreOctets f) (laid : IsLaid f) (plain : HasPla
   body : drop 8 (take t f) ≡ concat objects
   body =
       let at_end = edge-end (length objects) (omega arith) in
-      let long = front-long in
-      ap (λ (n : ℕ). drop n (take t f)) (sym edge-first) ∙ pieces_make (take t f) edge objects stand touch (omega arith)
+      ap (λ (n : ℕ). drop n (take t f)) (sym edge-first) ∙ pieces_make (take t f) edge objects stand touch (omega (arith, front-long))
 
   table-is : t ≡ 8 + length (concat objects)
   table-is =
-      let behind = laid.trailed.table_behind in
-      let long = front-long in
       let rest : length (concat objects) ≡ length (take t f) - 8 = ap length (sym body) ∙ length-drop 8 (take t f) in
-      omega arith
+      omega (arith, front-long, laid.trailed.table_behind)
 
   entries : (i : ℕ) → i < length objects → big_number w (drop (i * w) (drop t f)) ≡ edge i
   entries i h =
@@ -97,21 +94,17 @@ module _ (f : List ℕ) (octets : AreOctets f) (laid : IsLaid f) (plain : HasPla
 
   offsets : take (length objects * w) (drop t f) ≡ references w (starts 8 objects)
   offsets =
-      let whole = size in
       let listed : numbers w (length objects) (drop t f) ≡ starts 8 objects = numbers-starts w (drop t f) edge objects entries touch ∙ ap (λ (n : ℕ). starts n objects) edge-first in
-      sym (references-numbers w (length objects) (drop t f) (AreOctets-drop t f octets) (omega (arith, length-drop t f))) ∙ ap (references w) listed
+      sym (references-numbers w (length objects) (drop t f) (AreOctets-drop t f octets) (omega (arith, size, length-drop t f))) ∙ ap (references w) listed
 
   trailer : drop (length objects * w) (drop t f) ≡ trailer_octets (length objects) t
   trailer =
-      let whole = size in
-      let position : t + length objects * w ≡ length f - 32 = omega arith in
-      let long = laid.long in
-      drop-drop (length objects * w) t f ∙ ap (λ (n : ℕ). drop n f) position ∙ trailer-is f octets (omega arith) plain least ∙ ap (λ (n : ℕ). trailer_octets n t) count
+      let position : t + length objects * w ≡ length f - 32 = omega (arith, size) in
+      drop-drop (length objects * w) t f ∙ ap (λ (n : ℕ). drop n f) position ∙ trailer-is f octets (omega (arith, laid.long, size)) plain least ∙ ap (λ (n : ℕ). trailer_octets n t) count
 
   pub file_of-is : file_of objects ≡ f
   file_of-is =
-      let behind = laid.trailed.table_behind in
-      let head : take 8 (take t f) ≡ header = take-take 8 t f (omega arith) ∙ laid.headed in
+      let head : take 8 (take t f) ≡ header = take-take 8 t f (omega (arith, laid.trailed.table_behind)) ∙ laid.headed in
       let width : references w (starts 8 objects) ≡ references (least_width t) (starts 8 objects) = ap (λ (n : ℕ). references n (starts 8 objects)) least.offset in
       let parts = join_file f header (concat objects) (references (least_width t) (starts 8 objects)) (trailer_octets (length objects) t) t (length objects * w) head body (offsets ∙ width) trailer in
       sym (parts ∙ ap (λ (p : ℕ). header ++ (concat objects ++ (references (least_width p) (starts 8 objects) ++ trailer_octets (length objects) p))) table-is)
@@ -132,8 +125,7 @@ module _ (f : List ℕ) (octets : AreOctets f) (laid : IsLaid f) (plain : HasPla
       let v = value_at all made.position in
       let held = held_at (number_in all) made.position v in
       let numbered : Holds f i held = subst (λ (n : ℕ). Holds f n held) made.number_is (holds made.position made.below) in
-      let ends = laid.trailed.ends in
-      let spelled = occupies f i held (omega arith) numbered (canonically i (omega arith)) in
+      let spelled = occupies f i held (omega (arith, laid.trailed.ends)) numbered (canonically i (omega (arith, laid.trailed.ends))) in
       let widths : (trailer_of f).reference_width ≡ width = least.reference ∙ ap least_width count in
       let same = ap (λ (n : ℕ). spelling_of n held) widths ∙ octets-held (number_in all) width made.position v in
       let entry : get_or (objects_of all) i [] ≡ object_octets (number_in all) width made.position v = get_or-map (λ p. object_octets (number_in all) width p.0 p.1) (kept_positions all) i (0, list no_items) [] h ∙ ap (λ (p : ℕ × Plist). object_octets (number_in all) width p.0 p.1) made.entry_is in

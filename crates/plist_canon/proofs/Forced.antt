@@ -30,12 +30,11 @@ count_below-monotone (p ∷ kept) m n h =
 -- each number below the count is that of an earlier position with an object of its own
 made-before : (all : List Plist) (k n : ℕ) → n < count_below k (kept_positions all) → (p : ℕ) × (p < k) × (first_position all p (value_at all p) ≡ p) × (count_below p (kept_positions all) ≡ n)
 made-before all k n below =
-    let most = count_below-le k (kept_positions all) in
-    let made = is_made all n (omega arith) in
+    let made = is_made all n (omega (arith, count_below-le k (kept_positions all))) in
     let counted : count_below made.position (kept_positions all) ≡ n = ap (λ p. count_below p (kept_positions all)) (sym made.own) ∙ made.number_is in
     elim (cases_lt made.position k) [
       | inl before ↦ (made.position, before, made.own, counted)
-      | inr late ↦ absurd (let more = count_below-monotone (kept_positions all) k made.position late in omega arith)
+      | inr late ↦ absurd (let more = count_below-monotone (kept_positions all) k made.position late in omega (arith, count_below-le k (kept_positions all)))
     ]
 
 -- the number of an earlier position is below the count
@@ -44,10 +43,9 @@ number-counted all j k before most =
     let v = value_at all j in
     let first = first_position all j v in
     let at = first_position-holds all j v refl in
-    let early = first_position-le all j v refl in
-    let more = count-kept all first v at (omega arith) (first_position-first all j v) in
-    let rest = count_below-monotone (kept_positions all) (suc first) k (omega arith) in
-    omega arith
+    let more = count-kept all first v at (omega (arith, first_position-le all j v refl)) (first_position-first all j v) in
+    let rest = count_below-monotone (kept_positions all) (suc first) k (omega (arith, first_position-le all j v refl)) in
+    omega (arith, first_position-le all j v refl)
 
 -- a position whose object is a scalar contains that scalar
 scalar-stands : (f : List ℕ) (i k : ℕ) (number : ℕ → ℕ) (v : Plist) (s : Scalar) → Holds f i (held_at number k v) → Holds f i (holds_scalar s) → v ≡ scalar s
@@ -88,12 +86,11 @@ module _ (f : List ℕ) (all : List Plist) (entry : ℕ → ℕ) (holds : (k : �
   seen-first k below forced seen held =
       let s = held.0 in
       let p = made-before all k (entry k) seen in
-      let before = p.1 in
       let numbered : entry p.0 ≡ entry k = forced p.0 p.1 ∙ ap (λ n. count_below n (kept_positions all)) p.2 ∙ p.3 in
       let here = scalar-stands f (entry k) k entry (value_at all k) s (holds k (value_at all k) refl below) held.1 in
-      let there = scalar-stands f (entry p.0) p.0 entry (value_at all p.0) s (holds p.0 (value_at all p.0) refl (omega arith)) (subst (λ n. Holds f n (holds_scalar s)) (sym numbered) held.1) in
+      let there = scalar-stands f (entry p.0) p.0 entry (value_at all p.0) s (holds p.0 (value_at all p.0) refl (omega (arith, p.1))) (subst (λ n. Holds f n (holds_scalar s)) (sym numbered) held.1) in
       let first : first_position all k (value_at all k) ≡ p.0 = ap (first_position all k) here ∙ ap (first_position all p.0) (sym there) ∙ p.2 in
-      (omega arith, sym (ap (λ n. count_below n (kept_positions all)) first ∙ p.3))
+      (omega (arith, p.1), sym (ap (λ n. count_below n (kept_positions all)) first ∙ p.3))
 
   -- if the entries visit the objects in order, each is the number of its position, and in the end all
   -- objects are visited

@@ -30,9 +30,7 @@ not_less entries m n first second less = let own = (first m).0 ((second m).1 les
 
 pub AreBelow-same : (entries : List ℕ) (m n : ℕ) → AreBelow m entries → AreBelow n entries → m ≡ n
 AreBelow-same entries m n first second =
-    let least = not_less entries m n first second in
-    let most = not_less entries n m second first in
-    omega arith
+    omega (arith, not_less entries n m second first, not_less entries m n first second)
 
 module _ (entries : List ℕ) (seen : ℕ) (visited : AreBelow seen entries) where
   pub AreBelow-new : AreBelow (suc seen) (entries ++ (seen ∷ []))

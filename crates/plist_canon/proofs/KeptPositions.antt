@@ -69,22 +69,18 @@ record IsMadeIn (all : List Plist) (from : ℕ) (rest : List Plist) (i : ℕ) : 
 -- one position earlier, if that has no object of its own
 made_behind : (all : List Plist) (from : ℕ) (v : Plist) (rest : List Plist) (i : ℕ) → eqb (first_position all from v) from ≡ false → IsMadeIn all (suc from) rest i → IsMadeIn all from (v ∷ rest) i
 made_behind all from v rest i other x =
-    let at = x.place_is in
-    let b = x.below in
-    record { offset = suc x.offset; position = x.position; place_is = omega arith; below = omega arith; own = x.own; counted = rw other x.counted }
+    record { offset = suc x.offset; position = x.position; place_is = omega (arith, x.below, x.place_is); below = omega (arith, x.below, x.place_is); own = x.own; counted = rw other x.counted }
 
 -- one position earlier and one number more, if that has an object of its own
 made_later : (all : List Plist) (from : ℕ) (v : Plist) (rest : List Plist) (i : ℕ) → eqb (first_position all from v) from ≡ true → IsMadeIn all (suc from) rest i → IsMadeIn all from (v ∷ rest) (suc i)
 made_later all from v rest i same x =
-    let at = x.place_is in
-    let b = x.below in
     record {
       offset = suc x.offset;
       position = x.position;
-      place_is = omega arith;
-      below = omega arith;
+      place_is = omega (arith, x.below, x.place_is);
+      below = omega (arith, x.below, x.place_is);
       own = x.own;
-      counted = rw (same, lt-ltb from x.position (omega arith)) (ap suc x.counted);
+      counted = rw (same, lt-ltb from x.position (omega (arith, x.below, x.place_is))) (ap suc x.counted);
     }
 
 made_in : (all : List Plist) (from : ℕ) (rest : List Plist) (i : ℕ) → i < length (kept_from all from rest) → IsMadeIn all from rest i

@@ -88,8 +88,7 @@ HasSeen-past filter f i scalars none seen = record {
     λ before. elim (cases_lt before.0 i) [
       | inl earlier ↦ (seen.each q).1 (before.0, (earlier, before.1.1))
       | inr late ↦ absurd (
-          let below = before.1.0 in
-          let is : before.0 ≡ i = omega arith in
+          let is : before.0 ≡ i = omega (arith, before.1.0) in
           none (content_of q)
           (subst (MayRepeat filter) is before.1.1.0)
           (subst (λ (k : ℕ). HoldsIt f k (content_of q)) is before.1.1.1))

@@ -1,5 +1,5 @@
 -- Contiguous pieces make up the bytes that they are in, and begin at their offsets.
-use Rattle.std.proofs.Common.{◌≡◌, ℕ, suc, ◌+◌, ◌*◌, ◌<◌, ◌≤◌, List, [], ◌∷◌, ◌++◌, length, drop, get_or, refl, sym, ap, ◌∙◌, arith, ◌-◌, ltb, leb, ◌&&◌, Bool, true, false, cond, take, Result, Ok, Err, IsOk, length-append, length-drop, ltb-true, leb-true, subst, slice_index, replicate, take-append-drop, take_all}
+use Rattle.std.proofs.Common.{◌≡◌, ℕ, suc, ◌+◌, ◌*◌, ◌<◌, ◌≤◌, List, [], ◌∷◌, ◌++◌, length, drop, get_or, refl, sym, ap, ◌∙◌, arith, ◌-◌, ltb, leb, ◌&&◌, Bool, true, false, cond, take, Result, Ok, Err, length-append, length-drop, ltb-true, leb-true, subst, slice_index, replicate, take-append-drop, take_all}
 use Rattle.std.specs.List.{concat}
 use Rattle.std.proofs.lemmas.List.{drop_at, drop-drop, drop_all, length-take-le, take_rest, get_or-drop, drop_more}
 use Rattle.byteorder.specs.Endian.{big_number, big_bytes}
@@ -16,6 +16,7 @@ use Rattle.std.specs.Prelude.{◌↔◌}
 use Rattle.plist_value.specs.Plist.{AreOctets}
 use Rattle.plist_object.specs.Heads.{BeginsCanonically, IsCounted}
 use Rattle.plist_object.proofs.CanonicalHeads.{shortest_iff}
+use Rattle.plist_object.proofs.Readable.{Holds-reads}
 use Rattle.plist_object.specs.Spelling.{least_width}
 use Rattle.plist_object.proofs.SameOctets.{big_bytes-big_number, AreOctets-drop}
 use Rattle.plist_write.specs.Canonical.{trailer_octets}
@@ -67,15 +68,6 @@ pub is_placed : (f : List ℕ) (i : ℕ) (octets : List ℕ) → octets_at f i �
 unfolding octets_at
 is_placed f i octets h = placed_by_test f i octets _ refl h
 
--- decoding the whole implies decoding the part
-reads_whole : (read : Result (Content × List ℕ) ObjectFault) (held : Content) → (read >>= λ parts. Ok parts.0) ≡ Ok held → IsOk read
-reads_whole (Ok parts) held h = refl
-reads_whole (Err e) held h = absurd cc
-
-reads_object : (f : List ℕ) (i : ℕ) (held : Content) → what_holds f i ≡ Ok held → IsOk (object_at f i)
-unfolding what_holds
-reads_object f i held h = reads_whole (object_at f i) held h
-
 reads-shortest : (f : List ℕ) (i : ℕ) (x : IsShortest f i) → object_at f i ≡ Ok (x.held, x.behind)
 unfolding object_at
 reads-shortest f i x = rw (x.stands) (x.reads)
@@ -117,7 +109,7 @@ occupies_shortest f i table x =
 -- an object in its canonical encoding occupies that encoding
 pub occupies : (f : List ℕ) (i : ℕ) (held : Content) → (trailer_of f).table ≤ length f → Holds f i held → IsSpelledCanonically f i → Occupies f i (spelling_of (trailer_of f).reference_width held)
 occupies f i held table holds canonically =
-    let x = canonically (reads_object f i held holds.reads) in
+    let x = canonically (Holds-reads f i held holds) in
     let same : x.held ≡ held = let other = held-shortest f i x in cc (other, holds.reads) in
     rw same at (occupies_shortest f i table x)
 
@@ -180,9 +172,8 @@ table-within f trailed =
 pub Holds-inside : (f : List ℕ) (i offset : ℕ) (objects : List ℕ) (held : Content) → IsTrailer (length f) (trailer_of f) → Holds f i held → place_of f i ≡ offset → objects ≡ take (trailer_of f).table f → offset ≤ length objects
 Holds-inside f i offset objects held trailed holds starts is =
     let x = trailer_of f in
-    let placed = Holds-placed f i held holds in
     let long : length objects ≡ x.table = ap length is ∙ length-take-le x.table f (table-within f trailed) in
-    omega arith
+    omega (arith, Holds-placed f i held holds)
 
 -- The trailer of a file that is plain and has the least widths.
 

@@ -31,9 +31,8 @@ path_groups-push (first ∷ frames) frame =
 -- replacing the last frame of the path
 path_groups-set : (frames : List Frame) (count : ℕ) (frame : Frame) → length frames ≡ count → 0 < count → path_groups (slice_set frames (count - 1) frame) ≡ frame_group frame ∷ path_groups (take (count - 1) frames)
 path_groups-set frames count frame counted some =
-    let long = length-set frames (count - 1) frame in
-    let whole = take_all (suc (count - 1)) (slice_set frames (count - 1) frame) (omega arith) in
-    ap path_groups (sym whole ∙ take-suc-set frames (count - 1) frame (omega arith)) ∙ path_groups-push (take (count - 1) frames) frame
+    let whole = take_all (suc (count - 1)) (slice_set frames (count - 1) frame) (omega (arith, length-set frames (count - 1) frame)) in
+    ap path_groups (sym whole ∙ take-suc-set frames (count - 1) frame (omega (arith, length-set frames (count - 1) frame))) ∙ path_groups-push (take (count - 1) frames) frame
 
 path_groups-last : (frames : List Frame) (count : ℕ) (frame : Frame) → length frames ≡ count → 0 < count → frame ≡ slice_index_or frames (count - 1) frame → path_groups frames ≡ frame_group frame ∷ path_groups (take (count - 1) frames)
 path_groups-last frames count frame counted some is =
@@ -179,8 +178,7 @@ module _ (f : List ℕ) (walk : Walk) (all : WalkedAll f walk) (seen : SeenInTur
   pub breaks-at : (owner levels i : ℕ) (after : Option Budget) (groups : List Group) → GoesOn walk.weights.items (path_groups walk.path.items) walk.left (grouped owner levels (i ∷ []) ∷ groups) after → IsNoneSeen walk.weights.items i → IsBroken f 7 owner
   breaks-at owner levels i after groups goes none =
       let left = goes f seen.weighed stands in
-      let counted = seen.counted in
-      IsWalking-other f (length walk.weights.items) owner i _ left.walking (λ next. (let below = next.1 in omega arith)) (none_seen f walk.weights.items i seen.weighed none)
+      IsWalking-other f (length walk.weights.items) owner i _ left.walking (λ next. (let below = next.1 in omega (arith, seen.counted))) (none_seen f walk.weights.items i seen.weighed none)
 
   ends : (after : Option Budget) → GoesOn walk.weights.items (path_groups walk.path.items) walk.left [] after → HasVisited f (length walk.weights.items) after []
   ends after goes = goes f seen.weighed stands

@@ -106,8 +106,7 @@ not_shortest x =
     let read = ap (object_in 1) octets ∙ x.reads in
     let both = same_read (holds_scalar (text (97 ∷ []))) x.held [] x.behind read in
     let spelled = octets ∙ x.spelled ∙ ap (λ (p : Content × List ℕ). spelling_of 1 p.0 ++ p.1) (sym both) in
-    let first = same_head 95 81 (16 ∷ 1 ∷ 97 ∷ []) (97 ∷ []) spelled in
-    omega arith
+    omega (arith, same_head 95 81 (16 ∷ 1 ∷ 97 ∷ []) (97 ∷ []) spelled)
 
 breaks-c4 : IsSpelledCanonically long_head_file 0 → ⊥
 unfolding object_at octets_at marked_object ascii_object content count_of_content count_spelled

@@ -8,7 +8,6 @@ use Rattle.plist_canon.specs.declared.weights.TheConstants.{MOST_KEPT}
 use Rattle.plist_object.specs.Objects.{IsContent, Content, holds_scalar, holds_list, holds_table}
 use Rattle.plist_object.specs.Places.{Holds, HoldsScalar}
 use Rattle.plist_object.specs.Spelled.{Spells, SpellItems}
-use Rattle.plist_object.proofs.Uniqueness.{same_held}
 use Rattle.plist_object.proofs.HeldRanges.{Holds-held}
 use Rattle.plist_value.specs.declared.budget.Budget.{Budget}
 use Rattle.plist_value.specs.Budget.{Spends, IsOver}
@@ -21,46 +20,38 @@ use Rattle.plist_canon.proofs.Entries.{put_texts}
 use Rattle.plist_canon.proofs.Visiting.{Weighs-held}
 use Rattle.plist_canon.proofs.TableParts.{some_nodes, table_parts}
 use Rattle.plist_value.proofs.Items.{some_depth}
+use Rattle.plist_write.proofs.Within.{scalar_seen, list_seen, table_seen}
 
 -- what holds of each value that an object may encode, by its content
 by_scalar : (f : List ℕ) (i : ℕ) (s : Scalar) (P : Plist → Type 0) → Holds f i (holds_scalar s) → P (scalar s) → (v : Plist) → Spells f i v → P v
-by_scalar f i s P holds here (scalar t) spells =
-    let e = same_held f i (holds_scalar s) (holds_scalar t) holds spells in
-    let same : s ≡ t = cc in
-    subst (λ (u : Scalar). P (scalar u)) same here
-by_scalar f i s P holds here (list vs) spells =
-    absurd (let e = same_held f i (holds_scalar s) (holds_list spells.0) holds spells.1.0 in cc)
-by_scalar f i s P holds here (table ps) spells =
-    absurd (let e = same_held f i (holds_scalar s) (holds_table spells.0 spells.1.0) holds spells.1.1.1.0 in cc)
+by_scalar f i s P holds here v spells = subst P (scalar_seen f i s v holds spells) here
 
 by_list : (f : List ℕ) (i : ℕ) (refs : List ℕ) (P : Plist → Type 0) → Holds f i (holds_list refs) → ((vs : Items) → AreItems vs → SpellItems f refs vs → P (list vs)) → (v : Plist) → IsPlist v → Spells f i v → P v
-by_list f i refs P holds here (scalar t) valid spells =
-    absurd (let e = same_held f i (holds_list refs) (holds_scalar t) holds spells in cc)
-by_list f i refs P holds here (list vs) valid spells =
-    let e = same_held f i (holds_list refs) (holds_list spells.0) holds spells.1.0 in
-    let same : spells.0 ≡ refs = cc in
-    here vs valid (subst (λ (rs : List ℕ). SpellItems f rs vs) same spells.1.1)
-by_list f i refs P holds here (table ps) valid spells =
-    absurd (let e = same_held f i (holds_list refs) (holds_table spells.0 spells.1.0) holds spells.1.1.1.0 in cc)
+by_list f i refs P holds here v valid spells =
+    let seen = list_seen f refs i v holds valid spells in
+    subst P seen.is (here seen.items seen.valid seen.spell)
 
 by_table : (f : List ℕ) (i : ℕ) (keys values : List ℕ) (P : Plist → Type 0) → Holds f i (holds_table keys values) → ((ps : Pairs) → ArePairs ps → Spells f i (table ps) → P (table ps)) → (v : Plist) → IsPlist v → Spells f i v → P v
-by_table f i keys values P holds here (scalar t) valid spells =
-    absurd (let e = same_held f i (holds_table keys values) (holds_scalar t) holds spells in cc)
-by_table f i keys values P holds here (list vs) valid spells =
-    absurd (let e = same_held f i (holds_table keys values) (holds_list spells.0) holds spells.1.0 in cc)
-by_table f i keys values P holds here (table ps) valid spells = here ps valid spells
+by_table f i keys values P holds here v valid spells =
+    let seen = table_seen f keys values i v holds valid spells in
+    subst P seen.is (here seen.pairs seen.spell.valid (subst (λ (v : Plist). Spells f i v) (sym seen.is) spells))
 
 -- the first of the values that are left
 record FirstItem (f : List ℕ) (i : ℕ) (refs : List ℕ) (rest : Items) : Type 0 where
   value : Plist
   others : Items
-  is : rest ≡ item value others
+  others_valid : AreItems others
+  valid : IsPlist value
   spells : Spells f i value
   later : SpellItems f refs others
+  nodes_are : nodes_of_items rest ≡ nodes value + nodes_of_items others
+  payload_is : payload_of_items rest ≡ payload value + payload_of_items others
+  depth_is : depth_of_items rest ≡ max (depth value) (depth_of_items others)
 
-first_item : (f : List ℕ) (i : ℕ) (refs : List ℕ) (rest : Items) → SpellItems f (i ∷ refs) rest → FirstItem f i refs rest
-first_item f i refs no_items spells = absurd (let none : i ∷ refs ≡ [] = spells in cc)
-first_item f i refs (item v vs) spells = record { value = v; others = vs; is = refl; spells = spells.0; later = spells.1 }
+first_item : (f : List ℕ) (i : ℕ) (refs : List ℕ) (rest : Items) → AreItems rest → SpellItems f (i ∷ refs) rest → FirstItem f i refs rest
+first_item f i refs no_items valid spells = absurd (let none : i ∷ refs ≡ [] = spells in cc)
+first_item f i refs (item v vs) valid spells =
+    record { value = v; others = vs; others_valid = valid.1; valid = valid.0; spells = spells.0; later = spells.1; nodes_are = refl; payload_is = refl; depth_is = refl }
 
 no_items_left : (f : List ℕ) (rest : Items) → SpellItems f [] rest → rest ≡ no_items
 no_items_left f no_items spells = refl
@@ -76,21 +67,10 @@ record LoneItem (f : List ℕ) (i : ℕ) (items : Items) : Type 0 where
   depth_is : depth_of_items items ≡ depth value
 
 lone_item : (f : List ℕ) (i : ℕ) (items : Items) → AreItems items → SpellItems f (i ∷ []) items → LoneItem f i items
-lone_item f i items valid spelled =
-    let n = first_item f i [] items spelled in
-    let is : items ≡ item n.value no_items = n.is ∙ ap (item n.value) (no_items_left f n.others n.later) in
-    let both : AreItems (item n.value no_items) = subst AreItems is valid in
-    let e : nodes_of_items items ≡ nodes n.value + 0 = ap nodes_of_items is in
-    let g : payload_of_items items ≡ payload n.value + 0 = ap payload_of_items is in
-    let h : depth_of_items items ≡ max (depth n.value) 0 = ap depth_of_items is in
-    record {
-      value = n.value;
-      valid = both.0;
-      spells = n.spells;
-      nodes_are = omega arith;
-      payload_is = omega arith;
-      depth_is = omega arith;
-    }
+lone_item f i no_items valid spells = absurd (let none : i ∷ [] ≡ [] = spells in cc)
+lone_item f i (item v no_items) valid spells =
+    record { value = v; valid = valid.0; spells = spells.0; nodes_are = omega arith; payload_is = omega arith; depth_is = omega arith }
+lone_item f i (item v (item w others)) valid spells = absurd spells.1
 
 -- what a scalar of this weight takes
 record ScalarCosts (weight : Weight) (v : Plist) : Type 0 where
@@ -125,18 +105,12 @@ pub record Step (f : List ℕ) (groups : List Group) (referred : AllReferred f g
 spent_step : (f : List ℕ) (groups others : List Group) (before after : Budget) (n p : ℕ) → Spends before n p after → (p ≤ MAX_PAYLOAD → (referred : AllReferred f groups) → Step f groups referred others n p) → HasLeft f groups (Some before) → HasLeft f others (Some after)
 spent_step f groups others before after n p spends step has_left v valid spells =
     let o = has_left v valid spells in
-    let a = spends in
-    let most = o.payload_most in
-    let s = step (omega arith) o.referred in
-    let b = o.nodes_left in
-    let c = o.payload_left in
-    let d = s.nodes_are in
-    let e = s.payload_is in
+    let s = step (omega (arith, spends, o.payload_most)) o.referred in
     record {
       referred = s.later;
-      nodes_left = omega arith;
-      payload_left = omega arith;
-      payload_most = omega arith;
+      nodes_left = omega (arith, spends, o.nodes_left, s.nodes_are);
+      payload_left = omega (arith, spends, o.payload_left, s.payload_is);
+      payload_most = omega (arith, spends, o.payload_most);
       within = λ fits. s.within (o.within fits);
       deep = λ fits. o.deep (s.back fits);
     }
@@ -153,19 +127,10 @@ module _ (f : List ℕ) (owner levels i : ℕ) (refs : List ℕ) (outer : List G
   passes_limit before over has_left v valid spells fits =
       let o = has_left v valid spells in
       let first = o.referred.0 in
-      let n = first_item f i refs first.items first.spelled in
+      let n = first_item f i refs first.items first.valid first.spelled in
       let least = weight_least f i weight weighs n.value n.spells in
-      let some = some_depth n.value in
-      let node = some_nodes n.value in
-      let a = o.nodes_left in
-      let b = o.payload_left in
-      let c = fits.nodes_fit in
-      let d = fits.payload_fits in
       let within = (o.within fits.depth_fits).0 in
-      let e : nodes_of_items first.items ≡ nodes n.value + nodes_of_items n.others = ap nodes_of_items n.is in
-      let g : payload_of_items first.items ≡ payload n.value + payload_of_items n.others = ap payload_of_items n.is in
-      let h : depth_of_items first.items ≡ max (depth n.value) (depth_of_items n.others) = ap depth_of_items n.is in
-      over (omega arith) (omega arith) (omega arith)
+      over (omega (arith, some_depth n.value, n.depth_is, within)) (omega (arith, some_nodes n.value, o.nodes_left, fits.nodes_fit, n.nodes_are)) (omega (arith, least, o.payload_left, fits.payload_fits, n.payload_is))
 
   -- the first object is counted
   taken : (others : List Group) (before after : Option Budget) → (1 ≤ levels → payload_of_weight weight ≤ MAX_PAYLOAD → (referred : AllReferred f (grouped owner levels (i ∷ refs) ∷ outer)) → Step f (grouped owner levels (i ∷ refs) ∷ outer) referred others 1 (payload_of_weight weight)) → TakesLeft levels weight before after → HasLeft f (grouped owner levels (i ∷ refs) ∷ outer) before → HasLeft f others after
@@ -177,21 +142,14 @@ module _ (f : List ℕ) (owner levels i : ℕ) (refs : List ℕ) (outer : List G
   scalar_step : HoldsScalar f i → 1 ≤ levels → payload_of_weight weight ≤ MAX_PAYLOAD → (referred : AllReferred f (grouped owner levels (i ∷ refs) ∷ outer)) → Step f (grouped owner levels (i ∷ refs) ∷ outer) referred (grouped owner levels refs ∷ outer) 1 (payload_of_weight weight)
   scalar_step held some most referred =
       let first = referred.0 in
-      let n = first_item f i refs first.items first.spelled in
-      let both : AreItems (item n.value n.others) = subst AreItems n.is first.valid in
+      let n = first_item f i refs first.items first.valid first.spelled in
       let costs = scalar_costs f i weight held.0 weighs held.1 most n.value n.spells in
-      let a = costs.nodes_are in
-      let b = costs.payload_is in
-      let c = costs.depth_is in
-      let e : nodes_of_items first.items ≡ nodes n.value + nodes_of_items n.others = ap nodes_of_items n.is in
-      let g : payload_of_items first.items ≡ payload n.value + payload_of_items n.others = ap payload_of_items n.is in
-      let h : depth_of_items first.items ≡ max (depth n.value) (depth_of_items n.others) = ap depth_of_items n.is in
       record {
-        later = (record { items = n.others; valid = both.1; spelled = n.later }, referred.1);
-        nodes_are = omega arith;
-        payload_is = omega arith;
-        within = λ w. (let d = w.0 in omega arith, w.1);
-        back = λ w. (let d = w.0 in omega arith, w.1);
+        later = (record { items = n.others; valid = n.others_valid; spelled = n.later }, referred.1);
+        nodes_are = omega (arith, costs.nodes_are, n.nodes_are);
+        payload_is = omega (arith, costs.payload_is, n.payload_is);
+        within = λ w. (omega (arith, costs.depth_is, n.depth_is, w.0), w.1);
+        back = λ w. (omega (arith, costs.depth_is, n.depth_is, w.0), w.1);
       }
 
   -- a reference to a scalar is skipped
@@ -202,35 +160,28 @@ pub HasLeft-popped : (f : List ℕ) (owner levels : ℕ) (outer : List Group) (l
 HasLeft-popped f owner levels outer left = moves f (grouped owner levels [] ∷ outer) outer left (λ referred.
     let first = referred.0 in
     let none = no_items_left f first.items first.spelled in
-    let e : nodes_of_items first.items ≡ 0 = ap nodes_of_items none in
-    let g : payload_of_items first.items ≡ 0 = ap payload_of_items none in
-    let h : depth_of_items first.items ≡ 0 = ap depth_of_items none in
     record {
       later = referred.1;
-      nodes_are = omega arith;
-      payload_is = omega arith;
+      nodes_are = omega (arith, ap nodes_of_items none);
+      payload_is = omega (arith, ap payload_of_items none);
       within = λ w. w.1;
-      back = λ w. (omega arith, w);
+      back = λ w. (omega (arith, ap depth_of_items none), w);
     })
 
 -- the first reference, split off
 pub HasLeft-parted : (f : List ℕ) (owner levels i : ℕ) (refs : List ℕ) (outer : List Group) (left : Option Budget) → HasLeft f (grouped owner levels (i ∷ refs) ∷ outer) left → HasLeft f (grouped owner levels (i ∷ []) ∷ grouped owner levels refs ∷ outer) left
 HasLeft-parted f owner levels i refs outer left = moves f (grouped owner levels (i ∷ refs) ∷ outer) (grouped owner levels (i ∷ []) ∷ grouped owner levels refs ∷ outer) left (λ referred.
     let first = referred.0 in
-    let n = first_item f i refs first.items first.spelled in
-    let both : AreItems (item n.value n.others) = subst AreItems n.is first.valid in
-    let e : nodes_of_items first.items ≡ nodes n.value + nodes_of_items n.others = ap nodes_of_items n.is in
-    let g : payload_of_items first.items ≡ payload n.value + payload_of_items n.others = ap payload_of_items n.is in
-    let h : depth_of_items first.items ≡ max (depth n.value) (depth_of_items n.others) = ap depth_of_items n.is in
+    let n = first_item f i refs first.items first.valid first.spelled in
     record {
       later = (
-        record { items = item n.value no_items; valid = (both.0, tt); spelled = (n.spells, refl) },
-        (record { items = n.others; valid = both.1; spelled = n.later }, referred.1),
+        record { items = item n.value no_items; valid = (n.valid, tt); spelled = (n.spells, refl) },
+        (record { items = n.others; valid = n.others_valid; spelled = n.later }, referred.1),
       );
-      nodes_are = omega arith;
-      payload_is = omega arith;
-      within = λ w. (let d = w.0 in omega arith, (let d = w.0 in omega arith, w.1));
-      back = λ w. (let d = w.0 in let k = w.1.0 in omega arith, w.1.1);
+      nodes_are = omega (arith, n.nodes_are);
+      payload_is = omega (arith, n.payload_is);
+      within = λ w. (omega (arith, n.depth_is, w.0), (omega (arith, n.depth_is, w.0), w.1));
+      back = λ w. (omega (arith, n.depth_is, w.0, w.1.0), w.1.1);
     })
 
 -- what an array or dictionary takes, and its items
@@ -280,56 +231,37 @@ module _ (f : List ℕ) (owner levels i : ℕ) (outer : List Group) (weight : We
   opening (holds_scalar s) holds valid some most referred =
       let n = lone_item f i referred.0.items referred.0.valid referred.0.spelled in
       let costs = scalar_costs f i weight s weighs holds most n.value n.spells in
-      let a = costs.nodes_are in
-      let b = costs.payload_is in
-      let c = costs.depth_is in
-      let d = n.nodes_are in
-      let e = n.payload_is in
-      let g = n.depth_is in
       record {
         later = referred.1;
-        nodes_are = omega arith;
-        payload_is = omega arith;
+        nodes_are = omega (arith, costs.nodes_are, n.nodes_are);
+        payload_is = omega (arith, costs.payload_is, n.payload_is);
         within = λ w. w.1;
-        back = λ w. (omega arith, w);
+        back = λ w. (omega (arith, costs.depth_is, n.depth_is), w);
       }
   opening (holds_list refs) holds valid some most referred =
       let n = lone_item f i referred.0.items referred.0.valid referred.0.spelled in
       let o = opened_list f i refs holds n.value n.valid n.spells in
       let none : payload_of_weight weight ≡ 0 = ap payload_of_weight (Weighs-held f i weight (holds_list refs) weighs holds) in
-      let a = o.nodes_are in
-      let b = o.payload_is in
-      let c = o.depth_is in
-      let d = n.nodes_are in
-      let e = n.payload_is in
-      let g = n.depth_is in
       record {
         later = (record { items = o.items.items; valid = o.items.valid; spelled = o.items.spelled }, referred.1);
-        nodes_are = omega arith;
-        payload_is = omega arith;
-        within = λ w. (let k = w.0 in omega arith, w.1);
-        back = λ w. (let k = w.0 in omega arith, w.1);
+        nodes_are = omega (arith, o.nodes_are, n.nodes_are);
+        payload_is = omega (arith, none, o.payload_is, n.payload_is);
+        within = λ w. (omega (arith, o.depth_is, n.depth_is, w.0), w.1);
+        back = λ w. (omega (arith, some, o.depth_is, n.depth_is, w.0), w.1);
       }
   opening (holds_table keys values) holds valid some most referred =
       let n = lone_item f i referred.0.items referred.0.valid referred.0.spelled in
       let o = opened_table f i keys values valid holds ascending n.value n.valid n.spells in
       let none : payload_of_weight weight ≡ 0 = ap payload_of_weight (Weighs-held f i weight (holds_table keys values) weighs holds) in
-      let a = o.nodes_are in
-      let b = o.payload_is in
-      let c = o.depth_is in
-      let j = o.texts_deep in
-      let d = n.nodes_are in
-      let e = n.payload_is in
-      let g = n.depth_is in
       record {
         later = (
           record { items = o.texts.items; valid = o.texts.valid; spelled = o.texts.spelled },
           (record { items = o.items.items; valid = o.items.valid; spelled = o.items.spelled }, referred.1),
         );
-        nodes_are = omega arith;
-        payload_is = omega arith;
-        within = λ w. (let k = w.0 in omega arith, (let k = w.0 in omega arith, w.1));
-        back = λ w. (let k = w.1.0 in omega arith, w.1.1);
+        nodes_are = omega (arith, o.nodes_are, n.nodes_are);
+        payload_is = omega (arith, none, o.payload_is, n.payload_is);
+        within = λ w. (omega (arith, o.texts_deep, o.depth_is, n.depth_is, w.0), (omega (arith, o.depth_is, n.depth_is, w.0), w.1));
+        back = λ w. (omega (arith, some, o.depth_is, n.depth_is, w.1.0), w.1.1);
       }
 
   -- the object is visited for the first time
@@ -352,6 +284,4 @@ HasLeft-start f whole all_nodes all_payload v valid spells = record {
 pub HasLeft-end : (f : List ℕ) (left : Budget) → HasLeft f [] (Some left) → (v : Plist) → IsPlist v → Spells f 0 v → Fits v
 HasLeft-end f left has_left v valid spells =
     let o = has_left v valid spells in
-    let a = o.nodes_left in
-    let b = o.payload_left in
-    record { nodes_fit = omega arith; depth_fits = o.deep tt; payload_fits = omega arith }
+    record { nodes_fit = omega (arith, o.nodes_left); depth_fits = o.deep tt; payload_fits = omega (arith, o.payload_left) }

@@ -34,8 +34,7 @@ weights-more f weights number weight weighed counted weighs i below =
     elim (cases_lt i (length weights)) [
       | inl before ↦ rw (get_or_append_left weights (weight ∷ []) container i before) (weighed i before)
       | inr past ↦ (
-          let long = length-append weights (weight ∷ []) in
-          let is : length weights ≡ i = omega arith in
+          let is : length weights ≡ i = omega (arith, length-append weights (weight ∷ [])) in
           rw (get_or_push weights weight container i is) (subst (λ (k : ℕ). Weighs f k weight) (sym counted ∙ is) weighs))
     ]
 
@@ -46,9 +45,8 @@ AreWeights-more f weights pushed number weight is weighed counted weighs =
 
 pub length-more : (weights pushed : List Weight) (number : ℕ) (weight : Weight) → pushed ≡ weights ++ (weight ∷ []) → length weights ≡ number → length pushed ≡ number + 1
 length-more weights pushed number weight is counted =
-    let long = length-append weights (weight ∷ []) in
     let same : length pushed ≡ length (weights ++ (weight ∷ [])) = ap length is in
-    omega arith
+    omega (arith, length-append weights (weight ∷ []))
 
 -- What a walk still has to visit, as it follows references.
 

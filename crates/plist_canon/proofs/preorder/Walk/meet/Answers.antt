@@ -15,9 +15,7 @@ pub returns-in-Err : goal.returns-in-Err
 returns-in-Err c = λ f i holds walked.
     let whole : is_some c.args.self.now.broken_at ≡ false = cc in
     let seen = (Walked-seen f i c.args.self.now whole).0 walked in
-    let counted = seen.counted in
-    let listed = holds.listed in
-    let below : length c.args.self.now.weights.items < (trailer_of f).count = omega arith in
+    let below : length c.args.self.now.weights.items < (trailer_of f).count = omega (arith, holds.listed, seen.counted) in
     (rw c.deref.ensures.value at c.in-Err.ensures) f seen.weighed seen.stands below
 
 pub returns : goal.returns
