@@ -52,7 +52,7 @@ pub fn canonical_with_hasher<S: BuildHasher + Copy>(
     let Ok(file) = BinFile::of(&octets) else {
         unreachable!();
     };
-    canonical_of(alloc, hasher, JudgedFile::draft(alloc, file, false))
+    canonical_of(alloc, hasher, JudgedFile::of_draft(alloc, file, false))
 }
 
 /// Sends the canonical file of a value within the limits, object by object, and returns its length
@@ -103,7 +103,7 @@ pub fn write_canonical_with_hasher<S: BuildHasher + Copy, W: Sink>(
     let Ok(file) = BinFile::of(&octets) else {
         unreachable!();
     };
-    write_canonical_of(alloc, hasher, JudgedFile::draft(alloc, file, false), out)
+    write_canonical_of(alloc, hasher, JudgedFile::of_draft(alloc, file, false), out)
 }
 
 // Returns a binary file of the value, with an object for each use of a scalar.
