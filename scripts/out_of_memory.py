@@ -26,7 +26,7 @@ from claims import TESTS
 TOP = Path(__file__).resolve().parent.parent
 LIST = "scripts/out_of_memory.txt"
 NAMES = re.compile(
-    r"\b(?:OutOfMemory|NoMemory|AllocError|AllocFailed|(?<!fn )(?:report_no_memory|to_u32))\b"
+    r"\b(?:OutOfMemory|NoMemory|AllocError|AllocFailed|(?<!fn )(?:print_no_memory|to_u32))\b"
     r"|\bneeds_memory\b(?!: bool)|\b(?:60|0x3[cC])(?:_?u8)?\b(?!\s*(?:\||=>))"
 )
 FAULT = re.compile(r"\bDeviceFault\b")

@@ -36,10 +36,10 @@ use Rattle.plist_convert.specs.Answer.{IsCheckAnswerOf, IsLintAnswer, IsOutputRe
 use Rattle.plist_convert.specs.Ending.{Ends, HaveFailed, Prints, no_memory}
 use Rattle.plist_convert.specs.Explaining.{Explains, said_of_kind, status_of_kind}
 use Rattle.plist_convert.specs.Program.{DeviceFailed, IsAskedRun, IsRun}
-use Rattle.plist_convert.specs.Runs.{EndsSending, IsAnswered, IsCheckRun, IsChecked, IsConvertRun, IsExplainRun, IsFileRun, IsFiltered, IsFilterRun, IsInputFault, IsLinted, IsLintRun, IsPrintRun, IsRunOfEach, IsSameRun, IsUnread, IsWanting, are_named, refusal_between, standard}
+use Rattle.plist_convert.specs.Runs.{EndsSending, IsAnswered, IsConvertRun, IsExplainRun, IsFileRun, IsFiltered, IsFilterRun, IsInputFault, IsPrintRun, IsRunOfEach, IsSameRun, IsUnread, IsWanting, refusal_between, standard}
 use Rattle.plist_convert.specs.State.{Ending, Input, State}
 use Rattle.plist_convert.specs.Verdicts.{verdict_status_for}
-use Rattle.plist_convert.proofs.Each.{Single, failed_or_not}
+use Rattle.plist_convert.proofs.Each.{Results, failed_or_not}
 
 -- numbers that are not 4
 no_0 : ◌≢◌ {A = ℕ} 0 4
@@ -182,14 +182,6 @@ file_blamed Answers path before after status quiet (inl unread) four = unread_bl
 file_blamed Answers path before after status quiet (inr (inl answered)) four = answered_blamed Answers path before after status quiet answered four
 file_blamed Answers path before after status quiet (inr (inr wanting)) four = wanting_blamed before after status wanting four
 
-checked_blamed : (several : Bool) (path : FileName) (before after : State) (status : ℕ) → IsChecked several path before after status → status ≡ 4 → Failed before after
-unfolding IsChecked
-checked_blamed several path before after status run four = file_blamed (IsCheckAnswerOf several path) path before after status (check_quiet several path) run four
-
-linted_blamed : (path : FileName) (before after : State) (status : ℕ) → IsLinted path before after status → status ≡ 4 → Failed before after
-unfolding IsLinted
-linted_blamed path before after status run four = file_blamed (IsLintAnswer path) path before after status (lint_quiet path) run four
-
 -- a run for each of several paths
 
 -- a count is kept, or rises once
@@ -246,10 +238,6 @@ both_since : (before middle after : State) → BothCount before middle → Faile
 both_since before middle after counts (inl disk) = inl (failed_since _ _ _ counts.0 disk)
 both_since before middle after counts (inr print) = inr (failed_since _ _ _ counts.1 print)
 
--- of a relation for one path: both counts are kept or rise once
-abbrev AllCount : Single → Type 0
-AllCount One = (path : FileName) (before after : State) (status : ℕ) → One path before after status → BothCount before after
-
 greatest_four : (a b : ℕ) → max a b ≡ 4 → (a ≡ 4) ⊎ (b ≡ 4)
 greatest_four a b four = elim (cases_lt a 4) [
   | inl less ↦ inr (omega (arith, less, four))
@@ -257,44 +245,30 @@ greatest_four a b four = elim (cases_lt a 4) [
 ]
 
 -- a run for each path, where Failed start is true of what went before
-each_blamed : (One : Single) (paths : List FileName) (start before after : State) (least status : ℕ) → AllCount One
-    → ((path : FileName) (b a : State) (s : ℕ) → One path b a s → s ≡ 4 → Failed b a)
+each_blamed : (Answers : Results) (paths : List FileName) (start before after : State) (least status : ℕ)
+    → ((path octets : List ℕ) (s : Said) → Answers path octets s → s.status ≢ 4)
     → ((later : State) → Failed before later → Failed start later) → (least ≡ 4 → Failed start before)
-    → IsRunOfEach One paths least before after status → status ≡ 4 → Failed start after
+    → IsRunOfEach Answers paths least before after status → status ≡ 4 → Failed start after
 unfolding IsRunOfEach
-each_blamed One [] start before after least status counts blames since so_far run four = rw run.0 (so_far (sym run.1 ∙ four))
-each_blamed One (path ∷ rest) start before after least status counts blames since so_far run four =
-    let here : BothCount before run.middle = counts path before run.middle run.own run.done in
+each_blamed Answers [] start before after least status quiet since so_far run four = rw run.0 (so_far (sym run.1 ∙ four))
+each_blamed Answers (path ∷ rest) start before after least status quiet since so_far run four =
+    let here : BothCount before run.middle = file_counts (Answers path) path before run.middle run.own run.done in
     elim (failed_or_not before.print_failures run.middle.print_failures) [
       | inl failed ↦ rw (run.cut failed).0 (since run.middle (inr failed))
-      | inr printed ↦ each_blamed One rest start run.middle after (max least run.own) status counts blames
+      | inr printed ↦ each_blamed Answers rest start run.middle after (max least run.own) status quiet
           (λ later failed. since later (both_since before run.middle later here failed))
           (λ greatest. elim (greatest_four least run.own greatest) [
             | inl before_four ↦ both_after start before run.middle here (so_far before_four)
-            | inr own_four ↦ since run.middle (blames path before run.middle run.own run.done own_four)
+            | inr own_four ↦ since run.middle (file_blamed (Answers path) path before run.middle run.own (quiet path) run.done own_four)
           ])
           (run.printed printed) four
     ]
 
-checked_count : (several : Bool) → AllCount (IsChecked several)
-unfolding IsChecked
-checked_count several path before after status run = file_counts (IsCheckAnswerOf several path) path before after status run
-
-linted_count : AllCount IsLinted
-unfolding IsLinted
-linted_count path before after status run = file_counts (IsLintAnswer path) path before after status run
-
-check_blamed : (named : Bool) (paths : List FileName) (before after : State) (status : ℕ) → IsCheckRun named paths before after status → status ≡ 4
-    → Failed before after
-unfolding IsCheckRun
-check_blamed named paths before after status run four =
-    let each = are_named named paths in
-    each_blamed (IsChecked each) paths before before after 0 status (checked_count each) (checked_blamed each) (λ later failed. failed) (λ four. absurd (no_0 four)) run four
-
-lint_blamed : (paths : List FileName) (before after : State) (status : ℕ) → IsLintRun paths before after status → status ≡ 4 → Failed before after
-unfolding IsLintRun
-lint_blamed paths before after status run four =
-    each_blamed IsLinted paths before before after 0 status linted_count linted_blamed (λ later failed. failed) (λ four. absurd (no_0 four)) run four
+files_blamed : (Answers : Results) (paths : List FileName) (before after : State) (status : ℕ)
+    → ((path octets : List ℕ) (s : Said) → Answers path octets s → s.status ≢ 4)
+    → IsRunOfEach Answers paths 0 before after status → status ≡ 4 → Failed before after
+files_blamed Answers paths before after status quiet run four =
+    each_blamed Answers paths before before after 0 status quiet (λ later failed. failed) (λ four. absurd (no_0 four)) run four
 
 same_blamed : (first second : FileName) (before after : State) (status : ℕ) → IsSameRun first second before after status → status ≡ 4 → Failed before after
 unfolding IsSameRun
@@ -390,8 +364,8 @@ unfolding IsAskedRun
 asked_blamed Filters input rest before after status run four = filter_blamed input rest before after status run.1 four
 asked_blamed (Converts form from to) input rest before after status run four = inr (convert_blamed form from to before after status run.1 four)
 asked_blamed (Compares first second) input rest before after status run four = inr (same_blamed first second before after status run.1 four)
-asked_blamed (Lints paths) input rest before after status run four = inr (lint_blamed paths before after status run.1 four)
-asked_blamed (Checks named paths) input rest before after status run four = inr (check_blamed named paths before after status run.1 four)
+asked_blamed (Lints paths) input rest before after status run four = inr (files_blamed IsLintAnswer paths before after status lint_quiet run.1 four)
+asked_blamed (Checks named paths) input rest before after status run four = inr (files_blamed _ paths before after status (check_quiet _) run.1 four)
 asked_blamed (asked.Prints path) input rest before after status run four = inr (print_blamed path before after status run.1 four)
 asked_blamed (asked.Explains what) input rest before after status run four = inr (explain_blamed what before after status run.1.1 four)
 

@@ -9,23 +9,24 @@ use Rattle.plist_write.specs.declared.faults.WriteFault.{WriteFault}
 use Rattle.plist_forms.specs.Output.{IsOutputFault}
 use Rattle.plist_forms.specs.Sent.{answer_of}
 use Rattle.plist_convert.specs.Files.{FileName, FileHolds, IsOutputStored, SameFiles, Stores}
+use Rattle.plist_convert.specs.Answer.{Said}
 use Rattle.plist_convert.specs.Ending.{Ends}
 use Rattle.plist_convert.specs.Runs.{EndsSending, IsConverted, IsConvertRun, path_of_fault, refusal_between}
 use Rattle.plist_convert.specs.State.{State}
 use Rattle.plist_convert.proofs.FilesBefore.{same_trans, stored_before}
 
--- nothing is printed after everything was stored
-pub stored_whole : (from to : FileName) (sent : Result ℕ WriteFault) (n : ℕ) (printed : Option (List ℕ)) (failures : ℕ) → Ok n ≡ answer_of sent
-    → EndsSending printed printed failures failures (λ fault. refusal_between from to (write_fault_for fault)) sent 0
-stored_whole from to (Ok m) n printed failures is = (refl, refl, refl)
-stored_whole from to (Err fault) n printed failures is = absurd cc
+-- nothing is printed after everything was sent
+pub sent_whole : (line : Fault → Said) (sent : Result ℕ WriteFault) (n : ℕ) (printed : Option (List ℕ)) (failures : ℕ) → Ok n ≡ answer_of sent
+    → EndsSending printed printed failures failures (λ fault. line (write_fault_for fault)) sent 0
+sent_whole line (Ok m) n printed failures is = (refl, refl, refl)
+sent_whole line (Err fault) n printed failures is = absurd cc
 
--- the line of the refusal is printed after only a prefix was stored
-pub stored_front : (from to : FileName) (sent : Result ℕ WriteFault) (fault : Fault) (old new : Option (List ℕ)) (before after status : ℕ)
-    → Err fault ≡ answer_of sent → Ends old new before after (refusal_between from to fault) status
-    → EndsSending old new before after (λ f. refusal_between from to (write_fault_for f)) sent status
-stored_front from to (Ok m) fault old new before after status is ends = absurd cc
-stored_front from to (Err f) fault old new before after status is ends =
+-- the line of the refusal is printed after only a prefix was sent
+pub sent_front : (line : Fault → Said) (sent : Result ℕ WriteFault) (fault : Fault) (old new : Option (List ℕ)) (before after status : ℕ)
+    → Err fault ≡ answer_of sent → Ends old new before after (line fault) status
+    → EndsSending old new before after (λ f. line (write_fault_for f)) sent status
+sent_front line (Ok m) fault old new before after status is ends = absurd cc
+sent_front line (Err f) fault old new before after status is ends =
     let same : fault ≡ write_fault_for f = cc in
     rw same at ends
 
@@ -56,7 +57,7 @@ unfolding IsConvertRun
 converted form octets from to before middle after n stands kept unfailed printed failures (inl unsent) = absurd (let is = unsent.is in cc)
 converted form octets from to before middle after n stands kept unfailed printed failures (inr goes) =
     inr (inr (store_before form octets from to before middle after 0 (Ok n) stands kept unfailed goes
-    (rw (printed, failures) (stored_whole from to goes.sent n before.printed before.print_failures goes.is))))
+    (rw (printed, failures) (sent_whole (refusal_between from to) goes.sent n before.printed before.print_failures goes.is))))
 
 -- a refusal of the bytes names their own path
 pub refused_under : (octets : List ℕ) (from to : FileName) (fault : Fault) → IsRefused octets fault
@@ -89,4 +90,4 @@ unconverted form octets from to before middle after status fault stands kept unf
     }))
 unconverted form octets from to before middle after status fault stands kept unfailed (inr goes) ends =
     inr (inr (store_before form octets from to before middle after status (Err fault) stands kept unfailed goes
-    (stored_front from to goes.sent fault before.printed after.printed before.print_failures after.print_failures status goes.is ends)))
+    (sent_front (refusal_between from to) goes.sent fault before.printed after.printed before.print_failures after.print_failures status goes.is ends)))

@@ -8,7 +8,7 @@ use Rattle.plist_convert.specs.Answer.{refusal}
 use Rattle.plist_convert.specs.Ending.{Ends}
 use Rattle.plist_convert.specs.Runs.{IsPrintRun, refusal_between, standard}
 use Rattle.plist_convert.specs.State.{State}
-use Rattle.plist_convert.proofs.Conversions.{refused_under, stored_front, stored_whole}
+use Rattle.plist_convert.proofs.Conversions.{refused_under, sent_front, sent_whole}
 
 -- everything was printed
 pub printed_whole : (octets : List ℕ) (path : FileName) (before after : State) (n : ℕ)
@@ -28,7 +28,7 @@ printed_whole octets path before after n stands kept unfailed (inr goes) = inr (
   printed = after.printed;
   failures = after.print_failures;
   written = goes.written;
-  ends = stored_whole path standard goes.sent n after.printed after.print_failures goes.is;
+  ends = sent_whole (refusal_between path standard) goes.sent n after.printed after.print_failures goes.is;
 }))
 
 -- a refusal, or only a prefix was printed
@@ -63,5 +63,5 @@ unprinted octets path before after status printed failures fault stands kept unf
   printed = printed;
   failures = failures;
   written = goes.written;
-  ends = stored_front path standard goes.sent fault printed after.printed failures after.print_failures status goes.is ends;
+  ends = sent_front (refusal_between path standard) goes.sent fault printed after.printed failures after.print_failures status goes.is ends;
 }))

@@ -15,8 +15,9 @@ use Rattle.plist_forms.specs.Sent.{answer_of}
 use Rattle.plist_forms.specs.Transfer.{IsInput, IsTransfer, Writes}
 use Rattle.plist_convert.specs.Answer.{refusal}
 use Rattle.plist_convert.specs.Ending.{Ends}
-use Rattle.plist_convert.specs.Runs.{EndsSending, IsFilterRun, IsInputFault, IsUntaken, standard}
+use Rattle.plist_convert.specs.Runs.{IsFilterRun, IsInputFault, IsUntaken, standard}
 use Rattle.plist_convert.specs.State.{Input, State}
+use Rattle.plist_convert.proofs.Conversions.{sent_front, sent_whole}
 
 -- what loading the input does to it
 abbrev pub LoadsInput : Input → Input → Result ℕ Fault → Type 0
@@ -29,21 +30,6 @@ canonical_output octets output of = record {
   accepted = of.accepted;
   canonical = (let written : Some (canon of.value) ≡ Some output = of.written in cc);
 }
-
--- all of it was sent
-sent_whole : (sent : Result ℕ WriteFault) (n : ℕ) (printed : Option (List ℕ)) (failures : ℕ) → Ok n ≡ answer_of sent
-    → EndsSending printed printed failures failures (λ fault. refusal standard (write_fault_for fault)) sent 0
-sent_whole (Ok m) n printed failures is = (refl, refl, refl)
-sent_whole (Err fault) n printed failures is = absurd cc
-
--- only a prefix of it was sent
-sent_front : (sent : Result ℕ WriteFault) (fault : Fault) (old new : Option (List ℕ)) (before after status : ℕ) → Err fault ≡ answer_of sent
-    → Ends old new before after (refusal standard fault) status
-    → EndsSending old new before after (λ f. refusal standard (write_fault_for f)) sent status
-sent_front (Ok m) fault old new before after status is ends = absurd cc
-sent_front (Err f) fault old new before after status is ends =
-    let same : fault ≡ write_fault_for f = cc in
-    rw same at ends
 
 -- all of it was sent
 writes_sent : (input rest : Input) (before after : State) (n : ℕ) (octets : List ℕ) → IsInput input.to_come rest.to_come octets
@@ -61,7 +47,7 @@ writes_sent input rest before after n octets taken unfailed (inr goes) = inr (re
   printed = after.printed;
   failures = after.print_failures;
   written = goes.written;
-  ends = sent_whole goes.sent n after.printed after.print_failures goes.is;
+  ends = sent_whole (refusal standard) goes.sent n after.printed after.print_failures goes.is;
 })
 
 pub filter_sent : (input rest : Input) (before after : State) (n : ℕ)
@@ -132,7 +118,7 @@ writes_refused input rest before after status printed failures fault octets take
       printed = printed;
       failures = failures;
       written = goes.written;
-      ends = sent_front goes.sent fault printed after.printed failures after.print_failures status goes.is ends;
+      ends = sent_front (refusal standard) goes.sent fault printed after.printed failures after.print_failures status goes.is ends;
     })
 
 pub filter_refused : (input rest : Input) (before after : State) (status : ℕ) (printed : Option (List ℕ)) (failures : ℕ) (fault : Fault)

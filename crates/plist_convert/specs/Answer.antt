@@ -22,6 +22,8 @@ use Rattle.plist_forms.specs.declared.pairs.PairFault.TheVariants.{First, Second
 use Rattle.plist_forms.specs.Output.{IsOutputFault}
 use Rattle.plist_convert.specs.Verdicts.{verdict_line_of, verdict_status_for}
 use Rattle.plist_convert.specs.declared.answers.Answer.{Answer}
+use Rattle.plist_convert.specs.declared.answers.Task.{Task}
+use Rattle.plist_convert.specs.declared.answers.Task.TheVariants as task
 
 -- a printed text and the exit status
 pub record Said : Type 0 where
@@ -117,6 +119,11 @@ pub record IsAcceptedAnswer (path octets : List ℕ) (s : Said) : Type 0 where
 -- the result of `lint`
 abbrev pub IsLintAnswer : List ℕ → List ℕ → Said → Type 0
 IsLintAnswer path octets s = IsAcceptedAnswer path octets s ⊎ IsRefusedAnswer path octets s
+
+-- the result of a task for a file
+abbrev pub AnswersTask : Task → List ℕ → List ℕ → Said → Type 0
+AnswersTask (task.Check named) = IsCheckAnswerOf named
+AnswersTask task.Lint = IsLintAnswer
 
 -- the word for two values that are equal or different
 pub record IsComparison (a b : List ℕ) (s : Said) : Type 0 where

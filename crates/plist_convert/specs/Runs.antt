@@ -64,34 +64,25 @@ pub record IsFollowed (One : State → State → ℕ → Type 0)
   pub cut : HaveFailed before.print_failures middle.print_failures
       → (after ≡ middle) × (status ≡ 4)
 
--- A run for each path, in the order given. The lines are those of the single runs, one after
--- another. The status is the greatest of theirs and the least one, but 4 if a line cannot be
--- printed: its path is then the last.
-unfoldable pub IsRunOfEach : (FileName → State → State → ℕ → Type 0) → List FileName → (least : ℕ)
+-- The results for each of the files are printed, in the order given. The status is the greatest of
+-- theirs and the least one, but 4 if a line cannot be printed: its path is then the last.
+unfoldable pub IsRunOfEach : (FileName → List ℕ → Said → Type 0) → List FileName → (least : ℕ)
     → State → State → ℕ → Type 0
-IsRunOfEach One [] least before after status = (after ≡ before) × (status ≡ least)
-IsRunOfEach One (path ∷ rest) least before after status =
-    IsFollowed (One path) (IsRunOfEach One rest) least before after status
-
--- `check` for one path, which its line has or not
-unfoldable pub IsChecked : (named : Bool) → FileName → State → State → ℕ → Type 0
-IsChecked named path = IsFileRun (IsCheckAnswerOf named path) path
+IsRunOfEach Answers [] least before after status = (after ≡ before) × (status ≡ least)
+IsRunOfEach Answers (path ∷ rest) least before after status =
+    IsFollowed (IsFileRun (Answers path) path) (IsRunOfEach Answers rest) least before after status
 
 -- Each line of `check` has its path: it is asked for, or there are several.
 abbrev pub are_named : (named : Bool) → List FileName → Bool
 are_named named paths = named || nat_lt 1 (length paths)
 
 -- `check [--with-filename] IN..`
-unfoldable pub IsCheckRun : (named : Bool) → List FileName → State → State → ℕ → Type 0
-IsCheckRun named paths = IsRunOfEach (IsChecked (are_named named paths)) paths 0
-
--- `lint` for one path
-unfoldable pub IsLinted : FileName → State → State → ℕ → Type 0
-IsLinted path = IsFileRun (IsLintAnswer path) path
+abbrev pub IsCheckRun : (named : Bool) → List FileName → State → State → ℕ → Type 0
+IsCheckRun named paths = IsRunOfEach (IsCheckAnswerOf (are_named named paths)) paths 0
 
 -- `lint IN..`
-unfoldable pub IsLintRun : List FileName → State → State → ℕ → Type 0
-IsLintRun paths = IsRunOfEach IsLinted paths 0
+abbrev pub IsLintRun : List FileName → State → State → ℕ → Type 0
+IsLintRun paths = IsRunOfEach IsLintAnswer paths 0
 
 -- The first file is loaded, and the second is not.
 pub record IsSecondUnread (first second : FileName) (before after : State)

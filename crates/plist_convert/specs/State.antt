@@ -4,6 +4,8 @@ use Rattle.std.specs.Prelude.{ℕ, List, Option}
 use Rattle.plist_convert.specs.Files.{Files}
 use Rattle.plist_convert.specs.Answer.{Said}
 use Rattle.plist_convert.specs.Ending.{Ends, Prints, no_memory}
+use Rattle.plist_convert.specs.FileDisk.{disk_failures, files_of}
+use Rattle.plist_convert.specs.declared.file_disk.FileDisk.{FileDisk}
 
 pub record State : Type 0 where
   pub files : Option Files
@@ -18,6 +20,12 @@ state files disk_failures printed print_failures = record {
   printed = printed;
   print_failures = print_failures;
 }
+
+-- the state of a disk and an output, as their opener and the sink see them
+abbrev pub run_state : {O H W : Type 0} → (O → Option Files) → (W → Option (List ℕ)) → (W → ℕ)
+    → FileDisk O H → W → State
+run_state files taken failures disk output =
+    state (files_of files disk) (disk_failures disk) (taken output) (failures output)
 
 -- standard input: the bytes to come, if they are known, and the number of takes that failed
 pub record Input : Type 0 where

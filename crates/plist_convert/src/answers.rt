@@ -1,7 +1,7 @@
 //! The result of each command for bytes that were loaded.
 ghost use Rattle.std.specs.Prelude.{◌≡◌, ◌++◌, IfOk, codes, option_map, string_bytes};
-ghost use Rattle.plist_convert.specs.Answer.{IsCheckAnswer, IsCheckAnswerOf, IsLintAnswer};
-ghost use Rattle.plist_convert.specs.Answer.{IsSameAnswer, Says};
+ghost use Rattle.plist_convert.specs.Answer.{AnswersTask, IsCheckAnswer, IsCheckAnswerOf};
+ghost use Rattle.plist_convert.specs.Answer.{IsLintAnswer, IsSameAnswer, Says};
 ghost use Rattle.plist_convert.specs.Answer.{accepted_said, equality_said, explained_said};
 ghost use Rattle.plist_convert.specs.Answer.{refusal, said_of, word_said};
 
@@ -17,6 +17,15 @@ use std::hash::BuildHasher;
 pub struct Answer {
     pub text: String,
     pub status: Status,
+}
+
+// A command that prints a line for each file.
+#[derive(Clone, Copy)]
+pub(crate) enum Task {
+    // `check`, whose line of a verdict has the path or not.
+    Check { named: bool },
+    // `lint`.
+    Lint,
 }
 
 /// Returns the result of `check` for the bytes of the file at the path. It is `canonical` and 0 if
@@ -79,6 +88,22 @@ pub fn lint_answer(alloc: Global, path: &str, octets: &[u8]) -> Result<Answer, A
     match judge_any(alloc, octets) {
         Ok(()) => accepted(alloc, path),
         Err(fault) => refused(alloc, path, &fault),
+    }
+}
+
+// Returns the result of the task for the bytes of the file at the path.
+pub(crate) fn task_answer<H: BuildHasher + Copy>(
+    alloc: Global,
+    hasher: H,
+    task: Task,
+    path: &str,
+    octets: &[u8],
+) -> Result<Answer, AllocError>
+    ensures { IfOk result (λ answer. AnswersTask task path.now octets.now (said_of answer)) }
+{
+    match task {
+        Task::Check { named } => check_answer_of(alloc, hasher, named, path, octets),
+        Task::Lint => lint_answer(alloc, path, octets),
     }
 }
 

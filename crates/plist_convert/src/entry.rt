@@ -2,15 +2,16 @@
 ghost use Rattle.std.specs.Prelude.{◌≡◌, map};
 ghost use Rattle.plist_convert.specs.Asked.{asked_by};
 ghost use Rattle.plist_convert.specs.Program.{DeviceFailed, IsAskedRun, IsHostRun, IsRun};
-ghost use Rattle.plist_convert.specs.State.{input_of, state};
+ghost use Rattle.plist_convert.specs.Runs.{are_named};
+ghost use Rattle.plist_convert.specs.State.{input_of, run_state};
 
-use crate::disks::Disk;
-use crate::executing::{
-    check_files, compare_files, convert_file, explain_what, lint_files, print_file,
-};
+use crate::answers::Task;
+use crate::executing::{answer_files, compare_files, convert_file, explain_what, print_file};
+use crate::file_disk::FileDisk;
 use crate::filtering::filter;
 use crate::host_disk::HostDisk;
-use crate::printing::explain;
+use crate::opens::Steady;
+use crate::printing::print_message;
 use crate::random_keys::random_state;
 use crate::reading::read_words;
 use crate::request::Request;
@@ -82,19 +83,14 @@ fn run_last<H: BuildHasher + Copy, R: Files, I: Read, O: Write>(
     let mut disk = HostDisk::new(rt, hasher);
     let mut source = Stream::new(input);
     let mut sink = Stream::new(output);
-    run_on(alloc, hasher, &mut disk, words, &mut source, &mut sink)
+    run_on(alloc, &mut disk, words, &mut source, &mut sink)
 }
 
-/// Runs the complete program on any disk and streams, like [`run`] on the files of the host.
-///
-/// Scalars are hashed with the hasher of this builder. If somebody else chooses what is converted,
-/// compared or checked, pass a [`RandomState`](std::hash::RandomState): scalars chosen to collide
-/// under [`FixedHasher`] then cost no more than others. The disk converts what it stores with a
-/// builder of its own.
-pub fn run_on<H: BuildHasher + Copy, D: Disk, S: Source, W: Sink>(
+/// Runs the complete program on any files and streams, like [`run`] on the files of the host.
+/// Scalars are hashed with the hasher of the disk.
+pub fn run_on<O: Steady, H: BuildHasher + Copy, S: Source, W: Sink>(
     alloc: Global,
-    hasher: H,
-    disk: &mut D,
+    disk: &mut FileDisk<O, H>,
     words: &[&str],
     input: &mut S,
     output: &mut W,
@@ -102,56 +98,27 @@ pub fn run_on<H: BuildHasher + Copy, D: Disk, S: Source, W: Sink>(
     ensures run { IsRun (map (λ word. word.now) words.now)
         (input_of (S.remaining input.old) (S.failures input.old))
         (input_of (S.remaining input.new) (S.failures input.new))
-        (state (D.files disk.old) (D.failures disk.old)
-        (W.taken output.old) (W.failures output.old))
-        (state (D.files disk.new) (D.failures disk.new)
-        (W.taken output.new) (W.failures output.new))
-        result }
+        (run_state O.files W.taken W.failures disk.old output.old)
+        (run_state O.files W.taken W.failures disk.new output.new) result }
     ensures same { W.device output.new ≡ W.device output.old }
     ensures device { S.device input.new ≡ S.device input.old }
     // The exit status is 4 only if a device failed.
     ensures blamed { result ≡ 4 → DeviceFailed
         (input_of (S.remaining input.old) (S.failures input.old))
         (input_of (S.remaining input.new) (S.failures input.new))
-        (state (D.files disk.old) (D.failures disk.old)
-        (W.taken output.old) (W.failures output.old))
-        (state (D.files disk.new) (D.failures disk.new)
-        (W.taken output.new) (W.failures output.new)) }
-{
-    perform(alloc, hasher, disk, words, input, output)
-}
-
-// Parses the arguments and executes the command.
-fn perform<H: BuildHasher + Copy, D: Disk, S: Source, W: Sink>(
-    alloc: Global,
-    hasher: H,
-    disk: &mut D,
-    words: &[&str],
-    input: &mut S,
-    output: &mut W,
-) -> u8
-    ensures run { IsRun (map (λ word. word.now) words.now)
-        (input_of (S.remaining input.old) (S.failures input.old))
-        (input_of (S.remaining input.new) (S.failures input.new))
-        (state (D.files disk.old) (D.failures disk.old)
-        (W.taken output.old) (W.failures output.old))
-        (state (D.files disk.new) (D.failures disk.new)
-        (W.taken output.new) (W.failures output.new))
-        result }
-    ensures same { W.device output.new ≡ W.device output.old }
-    ensures device { S.device input.new ≡ S.device input.old }
+        (run_state O.files W.taken W.failures disk.old output.old)
+        (run_state O.files W.taken W.failures disk.new output.new) }
 {
     match read_words(alloc, words) {
-        Ok(request) => execute(alloc, hasher, disk, request, input, output),
-        Err(error) => explain(alloc, &error, output),
+        Ok(request) => execute(alloc, disk, request, input, output),
+        Err(error) => print_message(alloc, &error, output),
     }
 }
 
 // Executes the command.
-fn execute<H: BuildHasher + Copy, D: Disk, S: Source, W: Sink>(
+fn execute<O: Steady, H: BuildHasher + Copy, S: Source, W: Sink>(
     alloc: Global,
-    hasher: H,
-    disk: &mut D,
+    disk: &mut FileDisk<O, H>,
     request: Request,
     input: &mut S,
     output: &mut W,
@@ -159,25 +126,29 @@ fn execute<H: BuildHasher + Copy, D: Disk, S: Source, W: Sink>(
     ensures run { IsAskedRun (asked_by request.entry)
         (input_of (S.remaining input.old) (S.failures input.old))
         (input_of (S.remaining input.new) (S.failures input.new))
-        (state (D.files disk.old) (D.failures disk.old)
-        (W.taken output.old) (W.failures output.old))
-        (state (D.files disk.new) (D.failures disk.new)
-        (W.taken output.new) (W.failures output.new))
-        result }
+        (run_state O.files W.taken W.failures disk.old output.old)
+        (run_state O.files W.taken W.failures disk.new output.new) result }
     ensures same { W.device output.new ≡ W.device output.old }
     ensures device { S.device input.new ≡ S.device input.old }
 {
     match request {
-        Request::Filter => filter(alloc, hasher, input, output),
+        Request::Filter => filter(alloc, disk.hasher, input, output),
         Request::Convert { form, from, to } => convert_file(alloc, disk, form, from, to, output),
-        Request::Same { first, second } => compare_files(
-            alloc, hasher, disk, first, second, output,
-        ),
-        Request::Lint { paths } => lint_files(alloc, disk, paths.as_slice(), output),
+        Request::Same { first, second } => compare_files(alloc, disk, first, second, output),
+        Request::Lint { paths } => answer_files(alloc, disk, Task::Lint, paths.as_slice(), output),
         Request::Check { named, paths } => {
-            check_files(alloc, hasher, disk, named, paths.as_slice(), output)
+            let paths = paths.as_slice();
+            let named = are_named(named, paths);
+            answer_files(alloc, disk, Task::Check { named }, paths, output)
         }
         Request::Print { path } => print_file(alloc, disk, path, output),
         Request::Explain { what } => explain_what(alloc, what, output),
     }
+}
+
+// Returns whether each line of `check` has its path.
+fn are_named(named: bool, paths: &[&str]) -> bool
+    ensures { result ≡ are_named named (map (λ path. path.now) paths.now) }
+{
+    named || paths.len() > 1
 }

@@ -1,43 +1,39 @@
 //! Executes each command on the files of its arguments.
 ghost use Rattle.std.specs.Prelude.{◌≡◌, ℕ, Option, map, option_map};
+ghost use Rattle.plist_forms.specs.Load.{octets_or as found_or};
+ghost use Rattle.plist_convert.specs.Answer.{AnswersTask};
 ghost use Rattle.plist_convert.specs.Files.{Files};
-ghost use Rattle.plist_convert.specs.Runs.{IsCheckRun, IsChecked, IsConvertRun, IsLintRun};
-ghost use Rattle.plist_convert.specs.Runs.{IsExplainRun, IsLinted, IsPrintRun, IsSameRun};
-ghost use Rattle.plist_convert.specs.Runs.{are_named, path_of_fault};
-ghost use Rattle.plist_convert.specs.State.{state};
+ghost use Rattle.plist_convert.specs.Runs.{IsConvertRun, IsExplainRun, IsFileRun, IsPrintRun};
+ghost use Rattle.plist_convert.specs.Runs.{IsRunOfEach, IsSameRun, path_of_fault};
+ghost use Rattle.plist_convert.specs.State.{run_state, state};
 
-use crate::answers::{check_answer_of, explain_answer, lint_answer, same_answer};
-use crate::disks::Disk;
+use crate::answers::{Task, explain_answer, same_answer, task_answer};
+use crate::file_disk::FileDisk;
 use crate::filtering::STANDARD;
-use crate::printing::{give, have_failed, report};
+use crate::opens::Steady;
+use crate::printing::{have_failed, print_answer, print_refusal};
 use plist_devices::Sink;
 use plist_forms::{Fault, Form, Status, print};
 use std::alloc::Global;
 use std::hash::BuildHasher;
 
-// Executes `check IN..`. Each line has its path if that is asked for, or if there are several.
-// Only one file is in memory at a time.
-pub(crate) fn check_files<H: BuildHasher + Copy, D: Disk, W: Sink>(
+// Executes the task for each path. Only one file is in memory at a time.
+pub(crate) fn answer_files<O: Steady, H: BuildHasher + Copy, W: Sink>(
     alloc: Global,
-    hasher: H,
-    disk: &mut D,
-    named: bool,
+    disk: &mut FileDisk<O, H>,
+    task: Task,
     paths: &[&str],
     output: &mut W,
 ) -> u8
-    ensures run { IsCheckRun named (map (λ path. path.now) paths.now)
-        (state (D.files disk.old) (D.failures disk.old)
-        (W.taken output.old) (W.failures output.old))
-        (state (D.files disk.new) (D.failures disk.new)
-        (W.taken output.new) (W.failures output.new))
-        result }
+    ensures run { IsRunOfEach (AnswersTask task) (map (λ path. path.now) paths.now) 0
+        (run_state O.files W.taken W.failures disk.old output.old)
+        (run_state O.files W.taken W.failures disk.new output.new) result }
     ensures same { W.device output.new ≡ W.device output.old }
 {
-    let with_path = are_named(named, paths);
     let mut status = 0u8;
     for path in paths {
         let failures = output.failures();
-        status = status.max(check_file(alloc, hasher, disk, with_path, path, output));
+        status = status.max(answer_file(alloc, disk, task, path, output));
         if have_failed(failures, output.failures()) {
             return Status::DeviceFailed.code();
         }
@@ -45,166 +41,110 @@ pub(crate) fn check_files<H: BuildHasher + Copy, D: Disk, W: Sink>(
     status
 }
 
-// Returns whether each line of `check` has its path.
-fn are_named(named: bool, paths: &[&str]) -> bool
-    ensures { result ≡ are_named named (map (λ path. path.now) paths.now) }
-{
-    named || paths.len() > 1
-}
-
-// Executes `check` for one path, which its line has if it is to be named.
-fn check_file<H: BuildHasher + Copy, D: Disk, W: Sink>(
+// Executes the task for one path.
+fn answer_file<O: Steady, H: BuildHasher + Copy, W: Sink>(
     alloc: Global,
-    hasher: H,
-    disk: &mut D,
-    named: bool,
+    disk: &mut FileDisk<O, H>,
+    task: Task,
     path: &str,
     output: &mut W,
 ) -> u8
-    ensures run { IsChecked named path.now
-        (state (D.files disk.old) (D.failures disk.old)
-        (W.taken output.old) (W.failures output.old))
-        (state (D.files disk.new) (D.failures disk.new)
-        (W.taken output.new) (W.failures output.new))
-        result }
+    ensures run { IsFileRun (AnswersTask task path.now) path.now
+        (run_state O.files W.taken W.failures disk.old output.old)
+        (run_state O.files W.taken W.failures disk.new output.new) result }
     ensures same { W.device output.new ≡ W.device output.old }
 {
     match disk.load(alloc, path) {
-        Ok(octets) => give(
+        Ok(octets) => print_answer(
             output,
-            check_answer_of(alloc, hasher, named, path, octets.as_slice()),
+            task_answer(alloc, disk.hasher, task, path, octets.as_slice()),
         ),
-        Err(fault) => report(alloc, path, &fault, output),
-    }
-}
-
-// Executes `lint IN..`. Only one file is in memory at a time.
-pub(crate) fn lint_files<D: Disk, W: Sink>(
-    alloc: Global,
-    disk: &mut D,
-    paths: &[&str],
-    output: &mut W,
-) -> u8
-    ensures run { IsLintRun (map (λ path. path.now) paths.now)
-        (state (D.files disk.old) (D.failures disk.old)
-        (W.taken output.old) (W.failures output.old))
-        (state (D.files disk.new) (D.failures disk.new)
-        (W.taken output.new) (W.failures output.new))
-        result }
-    ensures same { W.device output.new ≡ W.device output.old }
-{
-    let mut status = 0u8;
-    for path in paths {
-        let failures = output.failures();
-        status = status.max(lint_file(alloc, disk, path, output));
-        if have_failed(failures, output.failures()) {
-            return Status::DeviceFailed.code();
-        }
-    }
-    status
-}
-
-// Executes `lint` for one path.
-fn lint_file<D: Disk, W: Sink>(alloc: Global, disk: &mut D, path: &str, output: &mut W) -> u8
-    ensures run { IsLinted path.now
-        (state (D.files disk.old) (D.failures disk.old)
-        (W.taken output.old) (W.failures output.old))
-        (state (D.files disk.new) (D.failures disk.new)
-        (W.taken output.new) (W.failures output.new))
-        result }
-    ensures same { W.device output.new ≡ W.device output.old }
-{
-    match disk.load(alloc, path) {
-        Ok(octets) => give(output, lint_answer(alloc, path, octets.as_slice())),
-        Err(fault) => report(alloc, path, &fault, output),
+        Err(fault) => print_refusal(alloc, path, &fault, output),
     }
 }
 
 // Executes `same A B`. Loads both files before it reads them. Identical files are in memory only
 // once.
-pub(crate) fn compare_files<H: BuildHasher + Copy, D: Disk, W: Sink>(
+pub(crate) fn compare_files<O: Steady, H: BuildHasher + Copy, W: Sink>(
     alloc: Global,
-    hasher: H,
-    disk: &mut D,
+    disk: &mut FileDisk<O, H>,
     first: &str,
     second: &str,
     output: &mut W,
 ) -> u8
     ensures run { IsSameRun first.now second.now
-        (state (D.files disk.old) (D.failures disk.old)
-        (W.taken output.old) (W.failures output.old))
-        (state (D.files disk.new) (D.failures disk.new)
-        (W.taken output.new) (W.failures output.new))
-        result }
+        (run_state O.files W.taken W.failures disk.old output.old)
+        (run_state O.files W.taken W.failures disk.new output.new) result }
     ensures same { W.device output.new ≡ W.device output.old }
 {
-    let a = match disk.load(alloc, first) {
+    let loaded = match disk.load(alloc, first) {
         Ok(octets) => octets,
-        Err(fault) => return report(alloc, first, &fault, output),
+        Err(fault) => return print_refusal(alloc, first, &fault, output),
     };
-    match disk.load_unless(alloc, second, a.as_slice()) {
-        Ok(Some(b)) => give(
-            output,
-            same_answer(alloc, hasher, first, second, a.as_slice(), b.as_slice()),
-        ),
-        Ok(None) => give(
-            output,
-            same_answer(alloc, hasher, first, second, a.as_slice(), a.as_slice()),
-        ),
-        Err(fault) => report(alloc, second, &fault, output),
+    let a = loaded.as_slice();
+    match disk.load_unless(alloc, second, a) {
+        Ok(found) => {
+            let b = octets_or(a, &found);
+            print_answer(output, same_answer(alloc, disk.hasher, first, second, a, b))
+        }
+        Err(fault) => print_refusal(alloc, second, &fault, output),
+    }
+}
+
+// Returns the bytes that were found, or the known ones if there are no others.
+fn octets_or<'a>(known: &'a [u8], found: &'a Option<Vec<u8>>) -> &'a [u8]
+    ensures { result.now ≡ found_or known.now found.now }
+{
+    match found {
+        Some(octets) => octets.as_slice(),
+        None => known,
     }
 }
 
 // Executes `convert FORM IN OUT`. OUT is created or emptied when its first byte is written, so it
 // is unchanged if IN is refused.
-pub(crate) fn convert_file<D: Disk, W: Sink>(
+pub(crate) fn convert_file<O: Steady, H: BuildHasher + Copy, W: Sink>(
     alloc: Global,
-    disk: &mut D,
+    disk: &mut FileDisk<O, H>,
     form: Form,
     from: &str,
     to: &str,
     output: &mut W,
 ) -> u8
     ensures run { IsConvertRun form from.now to.now
-        (state (D.files disk.old) (D.failures disk.old)
-        (W.taken output.old) (W.failures output.old))
-        (state (D.files disk.new) (D.failures disk.new)
-        (W.taken output.new) (W.failures output.new))
-        result }
+        (run_state O.files W.taken W.failures disk.old output.old)
+        (run_state O.files W.taken W.failures disk.new output.new) result }
     ensures same { W.device output.new ≡ W.device output.old }
 {
     let octets = match disk.load(alloc, from) {
         Ok(octets) => octets,
-        Err(fault) => return report(alloc, from, &fault, output),
+        Err(fault) => return print_refusal(alloc, from, &fault, output),
     };
     match disk.store(alloc, to, octets, form) {
         Ok(_) => Status::Done.code(),
-        Err(fault) => report(alloc, path_of(&fault, from, to), &fault, output),
+        Err(fault) => print_refusal(alloc, path_of(&fault, from, to), &fault, output),
     }
 }
 
 // Executes `print IN`. Prints object by object, and only if IN is accepted.
-pub(crate) fn print_file<D: Disk, W: Sink>(
+pub(crate) fn print_file<O: Steady, H: BuildHasher + Copy, W: Sink>(
     alloc: Global,
-    disk: &mut D,
+    disk: &mut FileDisk<O, H>,
     path: &str,
     output: &mut W,
 ) -> u8
     ensures run { IsPrintRun path.now
-        (state (D.files disk.old) (D.failures disk.old)
-        (W.taken output.old) (W.failures output.old))
-        (state (D.files disk.new) (D.failures disk.new)
-        (W.taken output.new) (W.failures output.new))
-        result }
+        (run_state O.files W.taken W.failures disk.old output.old)
+        (run_state O.files W.taken W.failures disk.new output.new) result }
     ensures same { W.device output.new ≡ W.device output.old }
 {
     let octets = match disk.load(alloc, path) {
         Ok(octets) => octets,
-        Err(fault) => return report(alloc, path, &fault, output),
+        Err(fault) => return print_refusal(alloc, path, &fault, output),
     };
     match print(alloc, octets.as_slice(), output) {
         Ok(_) => Status::Done.code(),
-        Err(fault) => report(alloc, path_of(&fault, path, STANDARD), &fault, output),
+        Err(fault) => print_refusal(alloc, path_of(&fault, path, STANDARD), &fault, output),
     }
 }
 
@@ -216,7 +156,7 @@ pub(crate) fn explain_what<W: Sink>(alloc: Global, what: Option<&str>, output: &
         (state files disk (W.taken output.new) (W.failures output.new)) result }
     ensures same { W.device output.new ≡ W.device output.old }
 {
-    give(output, explain_answer(alloc, what))
+    print_answer(output, explain_answer(alloc, what))
 }
 
 // Returns the path that the line of a refusal names.

@@ -1,14 +1,13 @@
-//! A disk with the files of an opener.
+//! Loads and stores files.
 ghost use Rattle.std.specs.Prelude.{◌≡◌, ◌≤◌, false, IfErr, IfOk, IfSome, None, OnErr, OnOk};
 ghost use Rattle.std.specs.Prelude.{IsErrOf, IsTrue, option_map};
 ghost use Rattle.plist_forms.specs.Load.{octets_or};
 ghost use Rattle.plist_convert.specs.FileDisk.{IsFullAt, told, unless_lost as kept_or_lost};
-ghost use Rattle.plist_convert.specs.Files.{FileHolds, LoadsFile, SameFiles, Stores};
+ghost use Rattle.plist_convert.specs.Files.{CountsFailure, FileHolds, LoadsFile, SameFiles, Stores};
 ghost use Rattle.plist_convert.specs.Opens.{CountsUnread, Creates, HasFailing, IsUnfound};
 ghost use Rattle.plist_convert.specs.Opens.{IsUnopenedAs, Settles, written_of};
 
 use crate::created_file::{CreatedFile, KnownTarget, Target};
-use crate::disks::{Disk, failures_after};
 use crate::opens::{Created, Opens, Steady};
 use plist_forms::{Fault, Form, convert_octets, load_unless};
 use std::alloc::{AllocError, Global};
@@ -17,21 +16,23 @@ use std::io;
 use std::io::ErrorKind;
 use std::marker::Brand;
 
-/// A disk with the files of an opener. It knows their contents and their maximum size if the opener
-/// does: then 51 occurs only if an output is longer.
-///
-/// Scalars of stored files are hashed with the hasher of this builder.
+/// The files of an opener by path, with a count of the failures of their devices and the hasher for
+/// scalars. It knows their contents and their maximum size if the opener does: then 51 occurs only
+/// if an output is longer. Without that, as for the host's files, contracts say nothing about them.
 #[derive(Drop)]
 pub struct FileDisk<O, H> {
     opener: O,
-    hasher: H,
+    pub(crate) hasher: H,
     failures: u64,
 }
 
 impl<O: Opens, H: BuildHasher + Copy> FileDisk<O, H> {
     ghost use Rattle.plist_convert.specs.FileDisk.{disk_failures, files_of, limit_of};
 
-    /// Returns a disk with the files of this opener.
+    /// Returns a disk with the files of this opener. Scalars are hashed with the hasher of this
+    /// builder. If somebody else chooses what is converted, compared or checked, pass a
+    /// [`RandomState`](std::hash::RandomState): scalars chosen to collide under
+    /// [`FixedHasher`](plist_value::FixedHasher) then cost no more than others.
     pub fn over(opener: O, hasher: H) -> FileDisk<O, H>
         ensures files { files_of O.files result ≡ O.files opener }
         ensures limit { limit_of O.limit result ≡ O.limit opener }
@@ -45,14 +46,17 @@ impl<O: Opens, H: BuildHasher + Copy> FileDisk<O, H> {
     }
 }
 
-impl<O: Steady, H: BuildHasher + Copy> Disk for FileDisk<O, H> {
+impl<O: Steady, H: BuildHasher + Copy> FileDisk<O, H> {
     ghost use Rattle.plist_convert.specs.FileDisk.{disk_failures, files_of, limit_of};
 
-    ghost files = { files_of O.files };
-
-    ghost failures = { disk_failures };
-
-    fn load(&mut self, alloc: Global, path: &str) -> Result<Vec<u8>, Fault>
+    /// Returns all bytes of the file at the path. No file is changed.
+    ///
+    /// # Errors
+    ///
+    /// [`Fault::ReadFailed`] (50) if there is no file, or it cannot be opened or read;
+    /// [`Fault::InputTooLarge`] (52) if it has more than [`MAX_INPUT`](plist_forms::MAX_INPUT)
+    /// bytes; [`Fault::OutOfMemory`] (60).
+    pub fn load(&mut self, alloc: Global, path: &str) -> Result<Vec<u8>, Fault>
         ensures loads { LoadsFile (λ octets. octets.items)
             (files_of O.files self.old) (files_of O.files self.new)
             path.now (disk_failures self.old) (disk_failures self.new) result }
@@ -66,7 +70,13 @@ impl<O: Steady, H: BuildHasher + Copy> Disk for FileDisk<O, H> {
         }
     }
 
-    fn load_unless(
+    /// Returns all bytes of the file at the path, or `None` if they are the known ones, which are
+    /// then not allocated a second time.
+    ///
+    /// # Errors
+    ///
+    /// Fails like [`load`](FileDisk::load).
+    pub fn load_unless(
         &mut self,
         alloc: Global,
         path: &str,
@@ -84,7 +94,18 @@ impl<O: Steady, H: BuildHasher + Copy> Disk for FileDisk<O, H> {
         found
     }
 
-    fn store(
+    /// Converts the bytes to this form and writes the output to the file at the path. The file is
+    /// created or emptied when the first byte is put. Returns its size. Takes ownership
+    /// of the bytes, so that their memory can be freed early.
+    ///
+    /// # Errors
+    ///
+    /// Fails like [`convert_octets`](plist_forms::convert_octets). If the bytes are refused or the
+    /// form cannot encode their value, it fails before anything is put, and no file is changed.
+    /// [`Fault::WriteFailed`] (51) if the file cannot be created or written, and
+    /// [`Fault::OutOfMemory`] (60). After these two the file has exactly the first `sent` bytes; if
+    /// `sent` is 0, it may be unchanged. No other file is changed.
+    pub fn store(
         &mut self,
         alloc: Global,
         path: &str,
@@ -112,13 +133,16 @@ impl<O: Steady, H: BuildHasher + Copy> Disk for FileDisk<O, H> {
             octets,
             form,
         );
-        let is_kept = settle(&mut self.opener, alloc, created)?;
+        let is_kept = close(&mut self.opener, alloc, created)?;
         let sent = unless_lost(sent, is_kept);
         self.failures = failures_after(self.failures, &sent, needs_memory);
-        tell(sent, needs_memory)
+        as_out_of_memory(sent, needs_memory)
     }
 
-    fn failures(&self) -> u64 {
+    /// Returns the number of devices that failed so far, up to `u64::MAX`.
+    pub fn failures(&self) -> u64
+        ensures { result ≡ disk_failures self.now }
+    {
         self.failures
     }
 }
@@ -211,7 +235,7 @@ fn write_target<'p, O: Opens, H: BuildHasher + Copy, K: KnownTarget>(
 
 // Closes the file, if it was created, and returns whether it contains what was written. If out of
 // memory, no file changes.
-fn settle<O: Opens>(
+fn close<O: Opens>(
     opener: &mut O,
     alloc: Global,
     created: Option<Created<'_, O::Writer>>,
@@ -238,8 +262,19 @@ fn unless_lost(sent: Result<u64, Fault>, is_kept: bool) -> Result<u64, Fault>
     }
 }
 
+// Returns the count of failures after a file was sent with this result. If memory ran out for the
+// file, the device has not failed.
+fn failures_after(failures: u64, sent: &Result<u64, Fault>, needs_memory: bool) -> u64
+    ensures { CountsFailure failures result (told needs_memory sent.now) }
+{
+    match sent {
+        Err(Fault::WriteFailed { .. }) if !needs_memory => failures.saturating_add(1),
+        _ => failures,
+    }
+}
+
 // Returns the result of a store: if memory ran out for the file, the device has not failed.
-fn tell(sent: Result<u64, Fault>, needs_memory: bool) -> Result<u64, Fault>
+fn as_out_of_memory(sent: Result<u64, Fault>, needs_memory: bool) -> Result<u64, Fault>
     ensures { result ≡ told needs_memory sent }
 {
     match sent {

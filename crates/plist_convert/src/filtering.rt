@@ -4,7 +4,7 @@ ghost use Rattle.plist_convert.specs.Files.{Files};
 ghost use Rattle.plist_convert.specs.Runs.{IsFilterRun};
 ghost use Rattle.plist_convert.specs.State.{input_of, state};
 
-use crate::printing::report;
+use crate::printing::print_refusal;
 use plist_devices::{Sink, Source};
 use plist_forms::{Form, Status, convert_with_hasher};
 use std::alloc::Global;
@@ -31,6 +31,6 @@ pub(crate) fn filter<H: BuildHasher + Copy, S: Source, W: Sink>(
 {
     match convert_with_hasher(alloc, hasher, input, output, Form::Binary1) {
         Ok(_) => Status::Done.code(),
-        Err(fault) => report(alloc, STANDARD, &fault, output),
+        Err(fault) => print_refusal(alloc, STANDARD, &fault, output),
     }
 }

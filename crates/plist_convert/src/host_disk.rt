@@ -15,8 +15,6 @@ use std::rt::Files;
 use std::{fs, io};
 
 /// The files of the host, by path. Contracts know nothing about their contents.
-///
-/// Scalars of stored files are hashed with the hasher of this builder.
 pub type HostDisk<'a, R, H = FixedHasher> = FileDisk<HostFiles<'a, R>, H>;
 
 /// Opens the files of the host.
@@ -83,10 +81,8 @@ impl<R: Files> Steady for HostFiles<'_, R> {
 impl<'a, R: Files, H: BuildHasher + Copy> FileDisk<HostFiles<'a, R>, H> {
     ghost use Rattle.plist_convert.specs.FileDisk.{disk_failures};
 
-    /// Returns the files that this runtime can access. Scalars are hashed with the hasher of this
-    /// builder. If somebody else chooses what is converted, pass a
-    /// [`RandomState`](std::hash::RandomState): scalars chosen to collide under [`FixedHasher`]
-    /// then cost no more than others.
+    /// Returns the files that this runtime can access. The hasher is used as in
+    /// [`over`](FileDisk::over).
     pub fn new(rt: &'a R, hasher: H) -> FileDisk<HostFiles<'a, R>, H>
         ensures { disk_failures result ≡ 0 }
     {

@@ -6,7 +6,6 @@
 pub mod answers;
 mod commands;
 mod created_file;
-pub mod disks;
 mod entry;
 mod executing;
 pub mod file_disk;
@@ -21,7 +20,6 @@ mod reading;
 mod request;
 mod verdicts;
 
-pub use disks::Disk;
 pub use entry::{run, run_on, run_to_end};
 pub use file_disk::FileDisk;
 pub use host_disk::HostDisk;

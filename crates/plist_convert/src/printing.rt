@@ -14,7 +14,7 @@ use plist_forms::{Fault, Status};
 use std::alloc::{AllocError, Global};
 
 // Prints the text and returns the status, or 4 if the text cannot be printed.
-pub(crate) fn print<W: Sink>(output: &mut W, text: &str, status: Status) -> u8
+pub(crate) fn print_text<W: Sink>(output: &mut W, text: &str, status: Status) -> u8
     ensures ends { Prints (W.taken output.old) (W.taken output.new)
         (W.failures output.old) (W.failures output.new)
         (record { text = text.now; status = status_code status }) result }
@@ -27,7 +27,7 @@ pub(crate) fn print<W: Sink>(output: &mut W, text: &str, status: Status) -> u8
 }
 
 // Prints a result and returns its exit status.
-pub(crate) fn give<W: Sink>(output: &mut W, answer: Result<Answer, AllocError>) -> u8
+pub(crate) fn print_answer<W: Sink>(output: &mut W, answer: Result<Answer, AllocError>) -> u8
     ensures ends { MatchResult answer
         (λ answer. Prints (W.taken output.old) (W.taken output.new)
         (W.failures output.old) (W.failures output.new) (said_of answer) result)
@@ -36,35 +36,39 @@ pub(crate) fn give<W: Sink>(output: &mut W, answer: Result<Answer, AllocError>) 
     ensures same { W.device output.new ≡ W.device output.old }
 {
     match answer {
-        Ok(answer) => print(output, answer.text.as_str(), answer.status),
-        Err(_) => report_no_memory(output),
+        Ok(answer) => print_text(output, answer.text.as_str(), answer.status),
+        Err(_) => print_no_memory(output),
     }
 }
 
 // Prints the line of a refusal and returns its exit status.
-pub(crate) fn report<W: Sink>(alloc: Global, path: &str, fault: &Fault, output: &mut W) -> u8
+pub(crate) fn print_refusal<W: Sink>(alloc: Global, path: &str, fault: &Fault, output: &mut W) -> u8
     ensures ends { Ends (W.taken output.old) (W.taken output.new)
         (W.failures output.old) (W.failures output.new) (refusal path.now fault.now) result }
     ensures same { W.device output.new ≡ W.device output.old }
 {
     match refused(alloc, path, fault) {
-        Ok(answer) => print(output, answer.text.as_str(), answer.status),
-        Err(_) => report_no_memory(output),
+        Ok(answer) => print_text(output, answer.text.as_str(), answer.status),
+        Err(_) => print_no_memory(output),
     }
 }
 
 // Prints the message of `clap` and returns the exit status.
-pub(crate) fn explain<W: Sink>(alloc: Global, error: &Error, output: &mut W) -> u8
+pub(crate) fn print_message<W: Sink>(alloc: Global, error: &Error, output: &mut W) -> u8
     ensures ends { Explains (kind_of error.now) (W.taken output.old) (W.taken output.new)
         (W.failures output.old) (W.failures output.new) result }
     ensures same { W.device output.new ≡ W.device output.old }
 {
     let status = status_of(error);
-    tell(format!(in alloc; "{error}"), status, output)
+    print_if_message(format!(in alloc; "{error}"), status, output)
 }
 
 // Prints the message, or the line for out of memory if there is none.
-fn tell<W: Sink>(message: Result<String, AllocError>, status: Status, output: &mut W) -> u8
+fn print_if_message<W: Sink>(
+    message: Result<String, AllocError>,
+    status: Status,
+    output: &mut W,
+) -> u8
     ensures told { IfOk message (λ text. IsExplanation (status_code status) (string_bytes text)
         → Prints (W.taken output.old) (W.taken output.new)
         (W.failures output.old) (W.failures output.new)
@@ -78,14 +82,14 @@ fn tell<W: Sink>(message: Result<String, AllocError>, status: Status, output: &m
     ensures same { W.device output.new ≡ W.device output.old }
 {
     match message {
-        Ok(text) if explains(text.as_str(), status) => print(output, text.as_str(), status),
-        _ => report_no_memory(output),
+        Ok(text) if is_message(text.as_str(), status) => print_text(output, text.as_str(), status),
+        _ => print_no_memory(output),
     }
 }
 
 // Returns whether the text can be a message of `clap` with this status. A usage error begins with
 // `error: `. There is no message if out of memory.
-fn explains(text: &str, status: Status) -> bool
+fn is_message(text: &str, status: Status) -> bool
     ensures { IsTrue result ↔ IsExplanation (status_code status) text.now }
 {
     match status {
@@ -105,12 +109,12 @@ fn status_of(error: &Error) -> Status
     }
 }
 
-fn report_no_memory<W: Sink>(output: &mut W) -> u8
+fn print_no_memory<W: Sink>(output: &mut W) -> u8
     ensures ends { Prints (W.taken output.old) (W.taken output.new)
         (W.failures output.old) (W.failures output.new) no_memory_said result }
     ensures same { W.device output.new ≡ W.device output.old }
 {
-    print(output, "refused 60 OutOfMemory\n", Status::NoMemory)
+    print_text(output, "refused 60 OutOfMemory\n", Status::NoMemory)
 }
 
 // Returns whether printing failed between these two counts of failures. Once a count is `u64::MAX`

@@ -23,14 +23,7 @@ fn ran(alloc: Global, words: &[&str], octets: &[u8]) -> Result<(u8, ListSink), A
     let mut disk = FileDisk::over(files, FixedHasher::new());
     let mut input = ListSource::new(octets, 3, None);
     let mut output = ListSink::new(alloc, 60_000, 4096)?;
-    let status = run_on(
-        alloc,
-        FixedHasher::new(),
-        &mut disk,
-        words,
-        &mut input,
-        &mut output,
-    );
+    let status = run_on(alloc, &mut disk, words, &mut input, &mut output);
     Ok((status, output))
 }
 

@@ -2,7 +2,8 @@
 use crate::worked_files::{TABLE, TABLE_TEXT, UNSORTED};
 use plist_canon::{canonical_with_hasher, check_with_hasher, write_canonical_with_hasher};
 use plist_convert::answers::{check_answer, check_answer_of, same_answer};
-use plist_convert::{Disk, FileDisk, Form, HostDisk, ListSource, MemoryFiles, read_any, run_on};
+use plist_convert::opens::Steady;
+use plist_convert::{FileDisk, Form, HostDisk, ListSource, MemoryFiles, read_any, run_on};
 use plist_devices::ListSink;
 use plist_forms::{
     canonicalise_with_hasher, convert_octets, convert_with_hasher, same_files_with_hasher,
@@ -83,12 +84,15 @@ fn run_by(rt: &HostRuntime, by: Counting) -> Result<[bool; 5], Fail> {
     Ok(answers)
 }
 
-fn store<D: Disk>(alloc: Global, disk: &mut D) -> Result<u64, Fail> {
+fn store<O: Steady, H: BuildHasher + Copy>(
+    alloc: Global,
+    disk: &mut FileDisk<O, H>,
+) -> Result<u64, Fail> {
     let octets = Vec::from_slice(alloc, TABLE)?;
     Ok(disk.store(alloc, "hashed", octets, Form::Binary1)?)
 }
 
-// Runs the program over a disk with a hasher of its own.
+// Runs the program over a disk with this hasher.
 fn run_row<H: BuildHasher + Copy>(
     alloc: Global,
     hasher: H,
@@ -97,10 +101,10 @@ fn run_row<H: BuildHasher + Copy>(
     let mut files = MemoryFiles::new(alloc);
     files.put(alloc, "a", Vec::from_slice(alloc, TABLE)?)?;
     files.put(alloc, "b", Vec::from_slice(alloc, UNSORTED)?)?;
-    let mut disk = FileDisk::over(files, FixedHasher::new());
+    let mut disk = FileDisk::over(files, hasher);
     let mut input = ListSource::new(TABLE_TEXT, 3, None);
     let mut output = ListSink::new(alloc, 6000, 7)?;
-    let status = run_on(alloc, hasher, &mut disk, words, &mut input, &mut output);
+    let status = run_on(alloc, &mut disk, words, &mut input, &mut output);
     Ok(status)
 }
 

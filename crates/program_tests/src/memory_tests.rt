@@ -2,31 +2,23 @@
 use crate::device_tests::file_of_data;
 use crate::words::{printed_of, words_of};
 use crate::worked_files::{TABLE, TABLE_TEXT, TWICE, UNSORTED};
-use plist_convert::{Disk, Fault, FileDisk, Form, MemoryFiles, run_on};
+use plist_convert::{Fault, FileDisk, Form, MemoryFiles, run_on};
 use plist_devices::{ListSink, ListSource};
 use plist_value::FixedHasher;
 use std::alloc::{AllocError, Global};
 use std::hash::{BuildHasher, RandomState};
 use std::test::Fail;
 
-// Runs a row with this hash builder, and returns the exit status and the output.
-fn ran<H: BuildHasher + Copy, D: Disk>(
+// Runs a row, and returns the exit status and the output.
+fn ran<H: BuildHasher + Copy>(
     alloc: Global,
-    hasher: H,
-    disk: &mut D,
+    disk: &mut FileDisk<MemoryFiles, H>,
     row: &str,
 ) -> Result<(u8, ListSink), AllocError> {
     let words = words_of(alloc, row)?;
     let mut input = ListSource::new(b"", 3, None);
     let mut output = ListSink::new(alloc, 6000, 7)?;
-    let status = run_on(
-        alloc,
-        hasher,
-        disk,
-        words.as_slice(),
-        &mut input,
-        &mut output,
-    );
+    let status = run_on(alloc, disk, words.as_slice(), &mut input, &mut output);
     Ok((status, output))
 }
 
@@ -44,13 +36,12 @@ const RUNS: [&str; 8] = [
 
 // Returns whether all runs have their results over a disk with the files `in` and `old`, and leave
 // the right files.
-fn all_are_answered<H: BuildHasher + Copy, D: Disk>(
+fn all_are_answered<H: BuildHasher + Copy>(
     alloc: Global,
-    hasher: H,
-    disk: &mut D,
+    disk: &mut FileDisk<MemoryFiles, H>,
 ) -> Result<bool, Fail> {
     for row in &RUNS {
-        let (status, output) = ran(alloc, hasher, disk, row)?;
+        let (status, output) = ran(alloc, disk, row)?;
         if printed_of(row, status) != Some(output.taken()) {
             return Ok(false);
         }
@@ -60,14 +51,15 @@ fn all_are_answered<H: BuildHasher + Copy, D: Disk>(
     Ok(out.as_slice() == TABLE && old.as_slice() == b"old".as_slice() && disk.failures() == 1)
 }
 
-fn disk_with_limit(
+fn disk_with_limit<H: BuildHasher + Copy>(
     alloc: Global,
     limit: usize,
-) -> Result<FileDisk<MemoryFiles, FixedHasher>, AllocError> {
+    hasher: H,
+) -> Result<FileDisk<MemoryFiles, H>, AllocError> {
     let mut files = MemoryFiles::with_limit(alloc, limit);
     files.put(alloc, "in", Vec::from_slice(alloc, UNSORTED)?)?;
     files.put(alloc, "old", Vec::from_slice(alloc, b"old")?)?;
-    Ok(FileDisk::over(files, FixedHasher::new()))
+    Ok(FileDisk::over(files, hasher))
 }
 
 #[test]
@@ -75,10 +67,10 @@ fn runs_over_files_in_memory(rt: HostRuntime) -> Result<(), Fail> {
     let alloc = rt.alloc();
     let random = RandomState::new(&rt)?;
     for limit in [TABLE.len(), usize::MAX] {
-        let mut disk = disk_with_limit(alloc, limit)?;
-        assert!(rt; all_are_answered(alloc, FixedHasher::new(), &mut disk)?);
-        let mut disk = disk_with_limit(alloc, limit)?;
-        assert!(rt; all_are_answered(alloc, random, &mut disk)?);
+        let mut disk = disk_with_limit(alloc, limit, FixedHasher::new())?;
+        assert!(rt; all_are_answered(alloc, &mut disk)?);
+        let mut disk = disk_with_limit(alloc, limit, random)?;
+        assert!(rt; all_are_answered(alloc, &mut disk)?);
     }
     Ok(())
 }
@@ -86,7 +78,7 @@ fn runs_over_files_in_memory(rt: HostRuntime) -> Result<(), Fail> {
 #[test]
 fn stores_files_in_memory(rt: HostRuntime) -> Result<(), Fail> {
     let alloc = rt.alloc();
-    let mut disk = disk_with_limit(alloc, usize::MAX)?;
+    let mut disk = disk_with_limit(alloc, usize::MAX, FixedHasher::new())?;
     let missing = disk.load(alloc, "out").err();
     assert_eq!(rt; missing, Some(Fault::ReadFailed));
     assert_eq!(rt; disk.failures(), 1);
@@ -112,9 +104,9 @@ fn stores_files_in_memory(rt: HostRuntime) -> Result<(), Fail> {
 #[test]
 fn a_full_disk_takes_a_front(rt: HostRuntime) -> Result<(), Fail> {
     let alloc = rt.alloc();
-    let mut disk = disk_with_limit(alloc, 10)?;
+    let mut disk = disk_with_limit(alloc, 10, FixedHasher::new())?;
     let row = "convert binary1 in out|4 out: refused 51 WriteFailed after 10 octets\n";
-    let (status, output) = ran(alloc, FixedHasher::new(), &mut disk, row)?;
+    let (status, output) = ran(alloc, &mut disk, row)?;
     assert_eq!(rt; printed_of(row, status), Some(output.taken()));
     assert_eq!(rt; disk.failures(), 1);
     let out = disk.load(alloc, "out")?;
@@ -125,7 +117,7 @@ fn a_full_disk_takes_a_front(rt: HostRuntime) -> Result<(), Fail> {
 #[test]
 fn filters_in_memory(rt: HostRuntime) -> Result<(), Fail> {
     let alloc = rt.alloc();
-    let mut disk = disk_with_limit(alloc, 100)?;
+    let mut disk = disk_with_limit(alloc, 100, FixedHasher::new())?;
     // Data of more than 4,096 bytes is written without a copy.
     let long = file_of_data(alloc, b"\x4f\x12\0\0\x13\x88")?;
     let own = file_of_data(alloc, b"\x4f\x11\x13\x88")?;
@@ -138,15 +130,7 @@ fn filters_in_memory(rt: HostRuntime) -> Result<(), Fail> {
     for (octets, failing, printed, want) in rows {
         let mut input = ListSource::new(octets, 3, failing);
         let mut output = ListSink::new(alloc, 6000, 7)?;
-        let hasher = FixedHasher::new();
-        let status = run_on(
-            alloc,
-            hasher,
-            &mut disk,
-            &["plistconv"],
-            &mut input,
-            &mut output,
-        );
+        let status = run_on(alloc, &mut disk, &["plistconv"], &mut input, &mut output);
         assert!(rt; output.taken() == printed);
         assert_eq!(rt; status, want);
     }

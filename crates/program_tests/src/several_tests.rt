@@ -1,7 +1,7 @@
 //! `lint` and `check` of one path and of several.
 use crate::words::{printed_of, words_of};
 use crate::worked_files::{TABLE, TABLE_TEXT, TWICE, UNSORTED, VALUES_FIRST};
-use plist_convert::{Disk, FileDisk, MemoryFiles, run_on};
+use plist_convert::{FileDisk, MemoryFiles, run_on};
 use plist_devices::{ListSink, ListSource};
 use plist_value::FixedHasher;
 use std::alloc::{AllocError, Global};
@@ -66,14 +66,7 @@ fn ran(
     let words = words_of(alloc, row)?;
     let mut input = ListSource::new(b"", 3, None);
     let mut output = ListSink::new(alloc, room, 7)?;
-    let status = run_on(
-        alloc,
-        FixedHasher::new(),
-        disk,
-        words.as_slice(),
-        &mut input,
-        &mut output,
-    );
+    let status = run_on(alloc, disk, words.as_slice(), &mut input, &mut output);
     Ok((status, output))
 }
 

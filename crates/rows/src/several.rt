@@ -23,14 +23,7 @@ pub(crate) fn answer_several(alloc: Global, word: &str, row: &Row) -> Result<Str
     let mut disk = FileDisk::over(files, FixedHasher::new());
     let mut input = ListSource::new(b"", 1, None);
     let mut output = ListSink::new(alloc, ROOM, ROOM)?;
-    let status = run_on(
-        alloc,
-        FixedHasher::new(),
-        &mut disk,
-        words.as_slice(),
-        &mut input,
-        &mut output,
-    );
+    let status = run_on(alloc, &mut disk, words.as_slice(), &mut input, &mut output);
     format!(in alloc; "{}: {} (status {status})", row.name, shown(output.taken()))
 }
 

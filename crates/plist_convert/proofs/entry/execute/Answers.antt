@@ -16,11 +16,11 @@ returns-in-Same-clause-run g c = rw c.in-Same.is (refl, c.compare_files.ensures.
 
 pub returns-in-Lint-clause-run : goal.returns-in-Lint-clause-run
 unfolding IsAskedRun
-returns-in-Lint-clause-run g c = rw c.in-Lint.is (refl, rw c.as_slice.ensures.value at c.lint_files.ensures.run)
+returns-in-Lint-clause-run g c = rw c.in-Lint.is (refl, rw c.as_slice.ensures.value at c.answer_files.ensures.run)
 
 pub returns-in-Check-clause-run : goal.returns-in-Check-clause-run
 unfolding IsAskedRun
-returns-in-Check-clause-run g c = rw c.in-Check.is (refl, rw c.as_slice-in-Check.ensures.value at c.check_files.ensures.run)
+returns-in-Check-clause-run g c = rw c.in-Check.is (refl, rw (c.are_named-named.ensures, c.as_slice-paths.ensures.value) at c.answer_files-in-Check.ensures.run)
 
 pub returns-in-Print-clause-run : goal.returns-in-Print-clause-run
 unfolding IsAskedRun

@@ -8,7 +8,5 @@ use Rattle.plist_convert.proofs.executing.explain_what.Goals as goal
 pub returns-clause-run : goal.returns-clause-run
 unfolding IsExplainRun
 returns-clause-run g c = λ disk files.
-    let before = state files disk (g.W.Sink.taken c.args.output.now) (g.W.Sink.failures c.args.output.now) in
-    let after = state files disk (g.W.Sink.taken c.give.new.output) (g.W.Sink.failures c.give.new.output) in
-    answer_ends (explained_said (option_map (λ word. word.now) c.args.what)) before after c.give.result c.explain_answer.result
-    c.explain_answer.ensures c.give.ensures.ends
+    answer_ends (explained_said (option_map (λ word. word.now) c.args.what)) (state files disk _ _) (state files disk _ _) c.print_answer.result c.explain_answer.result
+    c.explain_answer.ensures c.print_answer.ensures.ends

@@ -1,4 +1,4 @@
-use Rattle.plist_convert.proofs.file_disk.FileDiskDisk.store.Given as goal
+use Rattle.plist_convert.proofs.file_disk.FileDisk.store.Given as goal
 
 abbrev pub ghosts-write_target : goal.ghosts-write_target
 ghosts-write_target g a =

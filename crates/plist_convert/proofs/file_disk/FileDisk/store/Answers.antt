@@ -3,7 +3,7 @@ use Rattle.std.proofs.Common.{refl}
 use Rattle.plist_convert.specs.FileDisk.{unless_lost}
 use Rattle.plist_convert.proofs.Created.{closed, unsettled}
 use Rattle.plist_convert.proofs.Limits.{lost_fits, lost_full, told_fits, told_full, told_stored, unfilled, unknown_before}
-use Rattle.plist_convert.proofs.file_disk.FileDiskDisk.store.Goals as goal
+use Rattle.plist_convert.proofs.file_disk.FileDisk.store.Goals as goal
 
 pub returns-in_err-is_kept-clause-stores : goal.returns-in_err-is_kept-clause-stores
 returns-in_err-is_kept-clause-stores g c =
@@ -20,18 +20,18 @@ returns-clause-stores g c =
     let sent = c.write_target-created.result.1 in
     let needs_memory = c.write_target-created.result.2 in
     let counts = rw c.unless_lost-sent.ensures at c.failures_after-self.ensures in
-    rw (c.tell.ensures, c.unless_lost-sent.ensures) (told_stored c.args.form c.args.octets.items _ _ _ _ c.args.path.now (unless_lost c.in_ok-is_kept.is_kept sent) needs_memory
+    rw (c.as_out_of_memory.ensures, c.unless_lost-sent.ensures) (told_stored c.args.form c.args.octets.items _ _ _ _ c.args.path.now (unless_lost c.in_ok-is_kept.is_kept sent) needs_memory
     (λ x counts. closed g.O.Writer.Write.contents _ _ _ _ _ _ x _ _ sent c.in_ok-is_kept.is_kept c.write_target-created.ensures.placed
     c.write_target-created.ensures.creates c.in_ok-is_kept.ensures.settles c.in_ok-is_kept.ensures.lost counts) counts)
 
 pub returns-clause-fits : goal.returns-clause-fits
 returns-clause-fits g c =
-    rw (c.tell.ensures, c.unless_lost-sent.ensures) (told_fits _ _ _ c.write_target-created.result.2
+    rw (c.as_out_of_memory.ensures, c.unless_lost-sent.ensures) (told_fits _ _ _ c.write_target-created.result.2
     (lost_fits _ _ c.write_target-created.result.1 c.in_ok-is_kept.is_kept c.write_target-created.ensures.fits))
 
 pub returns-clause-full : goal.returns-clause-full
 returns-clause-full g c =
-    rw (c.tell.ensures, c.unless_lost-sent.ensures) (told_full c.args.form c.args.octets.items _ _ _ c.write_target-created.result.2
+    rw (c.as_out_of_memory.ensures, c.unless_lost-sent.ensures) (told_full c.args.form c.args.octets.items _ _ _ c.write_target-created.result.2
     (λ no. lost_full c.args.form c.args.octets.items _ _ c.write_target-created.result.1 c.in_ok-is_kept.is_kept
     (λ lost. unknown_before _ _ _ c.write_target-created.ensures.creates.emptied (c.in_ok-is_kept.ensures.lost lost))
     (c.write_target-created.ensures.full no)))
