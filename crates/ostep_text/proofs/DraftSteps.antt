@@ -18,7 +18,7 @@ use Rattle.ostep_text.specs.Stands.{Stands}
 use Rattle.ostep_text.specs.declared.fault.TextFault.{TextFault}
 use Rattle.ostep_text.specs.declared.fault.TextFault.TheVariants.{OutOfMemory}
 use Rattle.ostep_text.specs.declared.keys.KeySet.{KeySet}
-use Rattle.ostep_text.specs.declared.entries.Rows.{Rows}
+use Rattle.ostep_text.specs.declared.entries.Entries.{Entries}
 use Rattle.ostep_text.proofs.SortingSteps.{among_has}
 
 pub keeps-all : (helds : List Content) → Keeps helds helds
@@ -71,10 +71,10 @@ none-zip : (keys values : List ℕ) → keys ≡ [] → values ≡ [] → IsPerm
 none-zip [] values e g = IsPermutation-refl []
 none-zip (k ∷ keys) values e g = absurd (cc e)
 
-pub rows-none : (helds : List Content) (rows : Rows) → rows.keys.items ≡ [] → rows.values.items ≡ [] → SpellsRows helds rows no_pairs
+pub rows-none : (helds : List Content) (rows : Entries) → rows.keys.items ≡ [] → rows.values.items ≡ [] → SpellsRows helds rows no_pairs
 rows-none helds rows e g = record { moved = []; same = none-zip rows.keys.items rows.values.items e g; spell = refl }
 
-pub rows-more : (old new : List Content) (rows all : Rows) (row : ℕ × ℕ) {key : List ℕ} {v : Plist} {ps pairs : Pairs} → all.keys.items ≡ rows.keys.items ++ row.0 ∷ []
+pub rows-more : (old new : List Content) (rows all : Entries) (row : ℕ × ℕ) {key : List ℕ} {v : Plist} {ps pairs : Pairs} → all.keys.items ≡ rows.keys.items ++ row.0 ∷ []
     → all.values.items ≡ rows.values.items ++ row.1 ∷ [] → length rows.keys.items ≡ length rows.values.items → Keeps old new → SpellsRows old rows ps → SpellsRow new key row v
     → StandsAmong key v ps pairs → SpellsRows new all pairs
 rows-more old new rows all row {ps = ps} e g even k s r a =
@@ -101,14 +101,14 @@ memory-stands octets f e = subst (λ g. Stands octets g) (sym e) tt
 pub keeps-from : {old same : Draft} {new : List Content} → same ≡ old → Keeps (objects same) new → Keeps (objects old) new
 keeps-from {new = new} e k = subst (λ d. Keeps (objects d) new) e k
 
-pub rows-even : (rows all : Rows) (row : ℕ × ℕ) → all.keys.items ≡ rows.keys.items ++ row.0 ∷ [] → all.values.items ≡ rows.values.items ++ row.1 ∷ []
+pub rows-even : (rows all : Entries) (row : ℕ × ℕ) → all.keys.items ≡ rows.keys.items ++ row.0 ∷ [] → all.values.items ≡ rows.values.items ++ row.1 ∷ []
     → length rows.keys.items ≡ length rows.values.items → length all.keys.items ≡ length all.values.items
 rows-even rows all row e g even =
     let k : length all.keys.items ≡ length (rows.keys.items ++ row.0 ∷ []) = ap length e in
     let v : length all.values.items ≡ length (rows.values.items ++ row.1 ∷ []) = ap length g in
     omega (arith, length-append rows.keys.items (row.0 ∷ []), length-append rows.values.items (row.1 ∷ []))
 
-pub none-even : (rows : Rows) → rows.keys.items ≡ [] → rows.values.items ≡ [] → length rows.keys.items ≡ length rows.values.items
+pub none-even : (rows : Entries) → rows.keys.items ≡ [] → rows.values.items ≡ [] → length rows.keys.items ≡ length rows.values.items
 none-even rows e g = ap length e ∙ sym (ap length g)
 
 pub known-is : (keys : KeySet) (ps : Pairs) {known : Bool} (key : List ℕ) → HasKeysOf keys ps → known ≡ in_set keys key → has_key key ps ≡ known

@@ -5,7 +5,7 @@ use Rattle.std.specs.List.Sorted.{IsPermutation}
 use Rattle.plist_value.specs.Plist.{Plist, Pairs, text}
 use Rattle.plist_object.specs.Objects.{Content, holds_scalar}
 use Rattle.plist_draft.specs.Encoded.{HasContent, SpellsIn, SpellPairsIn}
-use Rattle.ostep_text.specs.declared.entries.Rows.{Rows}
+use Rattle.ostep_text.specs.declared.entries.Entries.{Entries}
 use Rattle.ostep_text.specs.Text.{IsText}
 
 -- what was appended encodes something of which both hold: what it takes of the limits, and what was
@@ -23,7 +23,7 @@ SpellsRow helds key row v =
     HasContent helds row.0 (holds_scalar (text key)) × SpellsIn helds row.1 v
 
 -- the rows, in some order, encode the pairs
-pub record SpellsRows (helds : List Content) (rows : Rows) (pairs : Pairs) : Type 0 where
+pub record SpellsRows (helds : List Content) (rows : Entries) (pairs : Pairs) : Type 0 where
   pub moved : List (ℕ × ℕ)
   pub same : IsPermutation (zip rows.keys.items rows.values.items) moved
   pub spell : SpellPairsIn helds moved pairs

@@ -9,7 +9,7 @@ ghost use Rattle.ostep_text.specs.Drafted.{SpellsRows};
 ghost use Rattle.ostep_text.specs.declared.fault.TextFault.TheVariants.{OutOfMemory};
 
 use crate::TextFault;
-use crate::entries::Rows;
+use crate::entries::Entries;
 use crate::key::Key;
 use plist_draft::Draft;
 use plist_value::{ScalarRef, TextRef};
@@ -58,7 +58,7 @@ pub(crate) fn put_list(draft: &mut Draft, items: &[u32]) -> Result<u32, TextFaul
 }
 
 // Appends a dictionary of these rows and returns its number.
-pub(crate) fn put_table(draft: &mut Draft, rows: &Rows) -> Result<u32, TextFault>
+pub(crate) fn put_table(draft: &mut Draft, rows: &Entries) -> Result<u32, TextFault>
     requires { length rows.now.keys.items ≡ length rows.now.values.items }
     ensures spells { IfOk result (λ number. (pairs : Pairs)
         → SpellsRows (objects draft.old) rows.now pairs

@@ -9,17 +9,17 @@ const LEAST_ROOM: usize = 8;
 
 // The keys and the values of the rows, in the order of the text: key k belongs to value k.
 #[derive(Drop)]
-pub(crate) struct Rows {
+pub(crate) struct Entries {
     pub(crate) keys: Vec<u32>,
     pub(crate) values: Vec<u32>,
 }
 
-impl Rows {
-    pub(crate) fn new(alloc: Global) -> Rows
+impl Entries {
+    pub(crate) fn new(alloc: Global) -> Entries
         ensures keys { result.keys.items ≡ [] }
         ensures values { result.values.items ≡ [] }
     {
-        Rows {
+        Entries {
             keys: Vec::new(alloc),
             values: Vec::new(alloc),
         }

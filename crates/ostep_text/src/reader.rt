@@ -24,7 +24,7 @@ ghost use Rattle.ostep_text.specs.Due.{ValueDue, RowValueDue, ListDue, TableDue,
 
 use crate::TextFault;
 use crate::building::{put_data, put_key, put_list, put_table, put_text};
-use crate::entries::Rows;
+use crate::entries::Entries;
 use crate::first::First;
 use crate::key::Key;
 use crate::keys::KeySet;
@@ -146,7 +146,7 @@ impl<'a> Reader<'a> {
 
     // Reads the rows of a dictionary after its `{`, up to and with its `}`.
     #[cycle(value)]
-    fn rows(&mut self, levels: u64) -> Result<Rows, TextFault>
+    fn rows(&mut self, levels: u64) -> Result<Entries, TextFault>
         ensures shorter { OnOk result
             (length (ahead self.new.tokens.cursor) ≤ length (ahead self.old.tokens.cursor)) }
         ensures even { IfOk result (λ rows.
@@ -162,7 +162,7 @@ impl<'a> Reader<'a> {
             → IfErr result (Stands octets) }
     {
         let mut keys = KeySet::new(self.alloc);
-        let mut rows = Rows::new(self.alloc);
+        let mut rows = Entries::new(self.alloc);
         loop {
             let first = self.tokens.expect_first()?;
             if first.ends_table() {

@@ -16,7 +16,7 @@ ghost use Rattle.ostep_text.specs.Reading.{HasRead, IsLeft, ReadsValue, ReadsRow
 
 use crate::TextFault;
 use crate::building::{put_key, put_table};
-use crate::entries::Rows;
+use crate::entries::Entries;
 use crate::key::Key;
 use crate::keys::KeySet;
 use crate::reader::Reader;
@@ -38,7 +38,7 @@ impl<'a> Reader<'a> {
             → IfErr result (Stands octets) }
     {
         let Some(first) = self.tokens.next()? else {
-            let rows = Rows::new(self.alloc);
+            let rows = Entries::new(self.alloc);
             return put_table(&mut self.draft, &rows);
         };
         let start = first.start;
@@ -149,7 +149,7 @@ impl<'a> Reader<'a> {
             → IfErr result (Stands octets) }
     {
         let mut keys = KeySet::new(self.alloc);
-        let mut rows = Rows::new(self.alloc);
+        let mut rows = Entries::new(self.alloc);
         rows.push(row)?;
         keys.insert(self.alloc, &key)?;
         while let Some(first) = self.tokens.next_first()? {

@@ -50,7 +50,8 @@ impl<'a> Walker<'a> {
         ensures passed { IfOk result (PassesNode (walked self.now) node.now progress.old
             progress.new) }
         ensures refused { IfErr result (RefusesNode (walked self.now) node.now progress.old) }
-        ensures progress { OnOk result (IsProgress (walked self.now) (above node.now) progress.new) }
+        ensures progress { OnOk result (IsProgress (walked self.now) (above node.now)
+            progress.new) }
     {
         if let Some((deep, rest)) = progress.recall(node.object, node.levels) {
             progress.left = rest;
@@ -66,7 +67,8 @@ impl<'a> Walker<'a> {
         ensures passed { IfOk result (PassesNode (walked self.now) node.now progress.old
             progress.new) }
         ensures refused { IfErr result (RefusesNode (walked self.now) node.now progress.old) }
-        ensures progress { OnOk result (IsProgress (walked self.now) (above node.now) progress.new) }
+        ensures progress { OnOk result (IsProgress (walked self.now) (above node.now)
+            progress.new) }
     {
         let before = progress.left;
         let deep = self.content_depth(progress, node)?;

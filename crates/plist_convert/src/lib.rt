@@ -25,8 +25,7 @@ pub use file_disk::FileDisk;
 pub use host_disk::HostDisk;
 pub use memory_files::MemoryFiles;
 pub use plist_devices::{
-    DeviceFault, ListSink, ListSource, ReaderSource, Sink, Source, Stream, WriterSink,
-    put_all,
+    DeviceFault, ListSink, ListSource, ReaderSource, Sink, Source, Stream, WriterSink, put_all,
 };
 pub use plist_forms::{
     Fault, Form, MAX_INPUT, PairFault, Status, canonicalise, convert, laws, line, load, read_any,

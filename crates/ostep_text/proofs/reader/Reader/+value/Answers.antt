@@ -12,7 +12,7 @@ use Rattle.plist_draft.specs.Encoded.{SpellsIn, SpellItemsIn}
 use Rattle.plist_draft.specs.View.{objects}
 use Rattle.ostep_text.specs.Drafted.{IsBuilt, SpellsRows}
 use Rattle.ostep_text.specs.Keys.{HasKeysOf}
-use Rattle.ostep_text.specs.declared.entries.Rows.{Rows}
+use Rattle.ostep_text.specs.declared.entries.Entries.{Entries}
 use Rattle.ostep_text.specs.declared.fault.TextFault.TheVariants.{Expected}
 use Rattle.ostep_text.specs.declared.reader.Reader.{Reader}
 use Rattle.ostep_text.specs.First.{first_placed, is_string}
@@ -322,7 +322,7 @@ rows-returns-in_err-row-clause-stands t c octets tokens whole b a f h d i =
 
 -- the rows and one more
 rows-built : (t : ℕ) (c : rows-In_ok-push t)
-    → IsBuilt (λ (rows : Rows) (ps : Pairs). SpellsRows (objects c.row.new.self.draft) rows ps × HasKeysOf c.insert.new.self ps) c.push.new.self
+    → IsBuilt (λ (rows : Entries) (ps : Pairs). SpellsRows (objects c.row.new.self.draft) rows ps × HasKeysOf c.insert.new.self ps) c.push.new.self
     (λ ps. TakesPairs c.args.self.now.left c.args.levels ps c.row.new.self.left)
     (λ ps. (octets : List ℕ) (tokens : List Located) → HasRead octets tokens c.args.self.now.tokens → ReadsPairs octets tokens [] ps c.row.new.self.tokens)
 rows-built t c =

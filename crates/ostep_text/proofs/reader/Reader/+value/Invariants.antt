@@ -4,7 +4,7 @@ use Rattle.ostep_lex.specs.Cursor.{ahead}
 use Rattle.plist_draft.specs.Encoded.{Keeps, SpellItemsIn}
 use Rattle.plist_draft.specs.View.{objects}
 use Rattle.plist_value.specs.Plist.{Pairs}
-use Rattle.ostep_text.specs.declared.entries.Rows.{Rows}
+use Rattle.ostep_text.specs.declared.entries.Entries.{Entries}
 use Rattle.ostep_text.specs.Drafted.{IsBuilt, SpellsRows}
 use Rattle.ostep_text.specs.Keys.{HasKeysOf}
 use Rattle.ostep_text.specs.Reading.{HasRead, ReadsItems, ReadsPairs, TakesItems, TakesPairs}
@@ -52,6 +52,6 @@ invariant-rows-loop-rows l =
       shorter : length (ahead l.self.tokens.cursor) ≤ length (ahead l.initial.self.tokens.cursor);
       kept : Keeps (objects l.initial.self.draft) (objects l.self.draft);
       even : length l.rows.keys.items ≡ length l.rows.values.items;
-      built : IsBuilt (λ (rows : Rows) (ps : Pairs). SpellsRows (objects l.self.draft) rows ps × HasKeysOf l.keys ps) l.rows (λ ps. TakesPairs l.initial.self.left l.levels ps l.self.left)
+      built : IsBuilt (λ (rows : Entries) (ps : Pairs). SpellsRows (objects l.self.draft) rows ps × HasKeysOf l.keys ps) l.rows (λ ps. TakesPairs l.initial.self.left l.levels ps l.self.left)
           (λ ps. (octets : List ℕ) (tokens : List Located) → HasRead octets tokens l.initial.self.tokens → ReadsPairs octets tokens [] ps l.self.tokens);
     }
