@@ -1,8 +1,15 @@
 -- Units that are printed without an escape.
-use Rattle.std.proofs.Common.{◌≡◌, ℕ, zero, suc, ◌+◌, ◌-◌, ◌/◌, ◌%◌, ◌<◌, ◌≤◌, Bool, true, false, not, ◌&&◌, T, List, [], ◌∷◌, ◌++◌, refl, ap, ◌∙◌, arith, inl, inr, eq-zero-or-pos}
+use Rattle.std.proofs.Common.{◌≡◌, ℕ, zero, suc, ◌+◌, ◌-◌, ◌/◌, ◌%◌, ◌<◌, ◌≤◌, Bool, true, false, not, ◌&&◌, T, List, [], ◌∷◌, ◌++◌, refl, ap, sym, ◌∙◌, drop, take, length, arith, inl, inr, eq-zero-or-pos}
 use Rattle.std.specs.Prelude.{◌==◌, codes, if◌then◌else◌}
 use Rattle.std.specs.Char.{encode_utf8}
 use Rattle.plist_value.specs.Digits.{two_digits}
+use Rattle.plist_value.specs.Escapes.{is_literal, literal_run, quoted_unit}
+use Rattle.plist_value.proofs.Quoted.{literal_run-begins}
+use Rattle.std.proofs.lemmas.List.{drop-drop, length-drop, length-take, take_all}
+use Rattle.std.proofs.lemmas.List.Folds.{length-prefix_len}
+use Rattle.std.proofs.lemmas.List.Sums.{prefix_len-le-length}
+use Rattle.std.specs.Int.{is_in_range}
+use Rattle.std.proofs.lemmas.Bool.{cases_Bool}
 use Rattle.std.specs.Char.Utf16.{is_high_surrogate}
 use Rattle.std.proofs.lemmas.Bool.Decides.{nat_tests}
 use Rattle.std.proofs.lemmas.Str.{encode_ascii}
@@ -12,7 +19,7 @@ use Rattle.ucd_category.specs.GeneralCategoryRows.{general_category_rows}
 use Rattle.ucd_derived.specs.Binary.{is_default_ignorable_code_point}
 use Rattle.ucd_derived.specs.DefaultIgnorableCodePointRanges.{default_ignorable_code_point_ranges}
 use Rattle.ucd_table.specs.Rows.{value_in, in_ranges}
-use Rattle.plist_print.specs.Units.{is_invisible, printed_unit, printed_units}
+use Rattle.plist_print.specs.Units.{is_ascii_text, is_invisible, printed_unit, printed_units}
 use Rattle.plist_print.proofs.Compared.{is-denied}
 
 if-false : (b : Bool) (xs ys : List ℕ) → b ≡ false → (if b then xs else ys) ≡ ys
@@ -74,3 +81,35 @@ printed_units-plain u (v ∷ us) p =
 
 pub ascii : (u : ℕ) → 32 ≤ u → u < 127 → (if is_invisible u then codes "\\U" ++ (two_digits (u / 256) ++ two_digits (u % 256)) else encode_utf8 u) ≡ u ∷ []
 ascii u low high = if-false (is_invisible u) _ _ (seen u low high) ∙ encode_ascii u (omega (arith, high))
+
+-- printable ASCII characters, tabs and line ends are printed as they are quoted
+pub text-quoted : (u : ℕ) → is_ascii_text u ≡ true → printed_unit u ≡ quoted_unit u
+unfolding printed_unit
+text-quoted u is = elim (cases_Bool (is_in_range 0x20 0x7e u)) [
+  | inl printable ↦ grind (arith, nat_tests, printable, ascii u (grind (arith, nat_tests, printable)) (grind (arith, nat_tests, printable)))
+  | inr out ↦ grind (arith, nat_tests, is, out)
+]
+
+pub literal-printed : (u : ℕ) (us : List ℕ) → is_literal u ≡ true → printed_units (u ∷ us) ≡ u ∷ printed_units us
+literal-printed u us is = printed_units-plain u us (record {
+  low = grind (arith, nat_tests, is);
+  high = grind (arith, nat_tests, is);
+  quote = λ e. grind (arith, nat_tests, is, e);
+  backslash = λ e. grind (arith, nat_tests, is, e);
+})
+
+pub run-of : {us octets run : List ℕ} (i : ℕ) → us ≡ octets → run ≡ literal_run (take (length octets - i) (drop i octets)) → run ≡ literal_run (drop i us)
+run-of {octets = octets} i same is =
+    is ∙ ap literal_run (take_all (length octets - i) (drop i octets) (omega (arith, length-drop i octets))) ∙ ap (λ os. literal_run (drop i os)) (sym same)
+
+-- what is left after a run of units that need no escape
+pub run-printed : (us run : List ℕ) (i : ℕ) → run ≡ literal_run (drop i us) → printed_units (drop i us) ≡ run ++ printed_units (drop (i + length run) us)
+run-printed us run i is =
+    literal_run-begins printed_units literal-printed (drop i us)
+    ∙ ap (λ os. os ++ printed_units (drop (length os) (drop i us))) (sym is)
+    ∙ ap (λ os. run ++ printed_units os) (drop-drop (length run) i us)
+
+pub run-within : (us run : List ℕ) (i : ℕ) → i < length us → run ≡ literal_run (drop i us) → i + length run ≤ length us
+run-within us run i within is =
+    let first = take 4096 (drop i us) in
+    omega (arith, within, ap length is, length-prefix_len is_literal first, prefix_len-le-length is_literal first, length-take 4096 (drop i us), length-drop i us)

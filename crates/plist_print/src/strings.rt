@@ -3,10 +3,10 @@ ghost use Rattle.std.specs.Prelude.{◌≡◌, ◌+◌, ◌*◌, ◌<◌, ◌≤
 ghost use Rattle.std.specs.Prelude.{ℕ, List, codes};
 ghost use Rattle.std.specs.Prelude.{false, IsTrue, IfOk, OnOk, length, take, drop};
 ghost use Rattle.std.specs.Char.{encode_utf8};
-ghost use Rattle.std.specs.Int.{is_in_range};
 ghost use Rattle.plist_value.specs.Texts.{units_of};
 ghost use Rattle.plist_write.specs.BufferedSink.{PutsPiece};
-ghost use Rattle.plist_print.specs.Units.{printed_text, printed_unit, printed_units};
+ghost use Rattle.plist_print.specs.Units.{is_ascii_text, printed_text, printed_unit};
+ghost use Rattle.plist_print.specs.Units.{printed_units};
 
 use crate::invisible::{visible_pair, visible_unit};
 use plist_value::{TextRef, literal_run, put_quoted_unit};
@@ -58,30 +58,24 @@ fn put_unit(out: &mut Vec<u8>, text: &TextRef, index: usize) -> Result<usize, Al
 }
 
 // Appends a unit that is not part of a visible pair.
-#[tactic(auto, using(crate::proofs::Plain::ascii), unfolding(crate::specs::Units::printed_unit))]
+#[tactic(auto, unfolding(crate::specs::Units::printed_unit))]
 fn put_single(out: &mut Vec<u8>, unit: u16) -> Result<(), AllocError>
     ensures { OnOk result (out.new.items ≡ out.old.items ++ printed_unit unit) }
 {
-    match unit {
-        0x22 | 0x5c | 0x0a | 0x09 | 0x0d => put_quoted_unit(out, unit),
-        0x20..=0x7e => Ok(out.push(unit as u8)?),
-        _ => put_other(out, unit),
+    if is_ascii_text(unit) {
+        return put_quoted_unit(out, unit);
     }
-}
-
-// Appends a unit that is no printable ASCII character and has no escape of one letter.
-#[tactic(auto, unfolding(crate::specs::Units::printed_unit))]
-fn put_other(out: &mut Vec<u8>, unit: u16) -> Result<(), AllocError>
-    requires printable { is_in_range 0x20 0x7e unit ≡ false }
-    requires newline { (unit == 10) ≡ false }
-    requires tab { (unit == 9) ≡ false }
-    requires back { (unit == 13) ≡ false }
-    ensures { OnOk result (out.new.items ≡ out.old.items ++ printed_unit unit) }
-{
     match visible_unit(unit) {
         Some(character) => put_character(out, character),
         None => put_quoted_unit(out, unit),
     }
+}
+
+// Returns whether the unit is a printable ASCII character, a tab or a line end.
+fn is_ascii_text(unit: u16) -> bool
+    ensures { result ≡ is_ascii_text unit }
+{
+    matches!(unit, 0x20..=0x7e | 0x09 | 0x0a | 0x0d)
 }
 
 // Appends a character in UTF-8.
