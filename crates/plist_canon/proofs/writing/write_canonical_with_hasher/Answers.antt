@@ -8,20 +8,20 @@ use Rattle.plist_write.proofs.FileSteps.{canon-some}
 use Rattle.plist_canon.proofs.writing.write_canonical_with_hasher.Goals as goal
 
 pub write_canonical_of-requires-clause-ready : goal.write_canonical_of-requires-clause-ready
-write_canonical_of-requires-clause-ready g c = c.draft.ensures.ready _
+write_canonical_of-requires-clause-ready g c = c.of_draft.ensures.ready _
 
 pub returns-clause-written : goal.returns-clause-written
 returns-clause-written g c =
     let v = view c.args.value.now in
-    let same : c.in_ok-octets.octets.items ≡ octets_of c.draft.result.file = search rules in
-    let binary : IsBinary (octets_of c.draft.result.file) v = subst (λ (os : List ℕ). IsBinary os v) same c.in_ok-octets.ensures in
+    let same : c.in_ok-octets.octets.items ≡ octets_of c.of_draft.result.file = search rules in
+    let binary : IsBinary (octets_of c.of_draft.result.file) v = subst (λ (os : List ℕ). IsBinary os v) same c.in_ok-octets.ensures in
     c.write_canonical_of.ensures.written v binary
 
 pub returns-clause-pieces : goal.returns-clause-pieces
 returns-clause-pieces g c =
     let v = view c.args.value.now in
-    let same : c.in_ok-octets.octets.items ≡ octets_of c.draft.result.file = search rules in
-    let binary : IsBinary (octets_of c.draft.result.file) v = subst (λ (os : List ℕ). IsBinary os v) same c.in_ok-octets.ensures in
+    let same : c.in_ok-octets.octets.items ≡ octets_of c.of_draft.result.file = search rules in
+    let binary : IsBinary (octets_of c.of_draft.result.file) v = subst (λ (os : List ℕ). IsBinary os v) same c.in_ok-octets.ensures in
     c.write_canonical_of.ensures.pieces v binary
 
 pub returns-in_err-octets-clause-written : goal.returns-in_err-octets-clause-written

@@ -34,8 +34,8 @@ returns-in_ok-judge_file-in-Input-clause-encodes g c = λ input read.
 pub returns-in-Draft-clause-encodes : goal.returns-in-Draft-clause-encodes
 returns-in-Draft-clause-encodes g c = λ input read.
     let drafted = rw c.in-Draft.is at read in
-    let same : octets_of c.draft.result.file ≡ c.in-Draft.draft.items =
-    ap octets_of c.draft.ensures.file ∙ c.layout.ensures ∙ c.as_slice-in-Draft.ensures.value in
+    let same : octets_of c.of_draft.result.file ≡ c.in-Draft.draft.items =
+    ap octets_of c.of_draft.ensures.file ∙ c.layout.ensures ∙ c.as_slice-in-Draft.ensures.value in
     let accepted : IsAccepted input drafted.1.0 = as_text input drafted.1.0 drafted.0 drafted.1.1.0 in
     record {
       value = drafted.1.0;
@@ -43,8 +43,8 @@ returns-in-Draft-clause-encodes g c = λ input read.
       binary = subst (λ (os : List ℕ). IsBinary os drafted.1.0) (sym same) drafted.1.1.1;
       told = λ v is.
           let binary = subst (λ (os : List ℕ). IsBinary os v) same is in
-          encoded_writable input c.in-Draft.draft.items drafted.0 drafted.1.0 accepted drafted.1.1.1 v binary ∙ sym c.draft.ensures.writable;
+          encoded_writable input c.in-Draft.draft.items drafted.0 drafted.1.0 accepted drafted.1.1.1 v binary ∙ sym c.of_draft.ensures.writable;
     }
 
 pub returns-in-Draft-clause-ready : goal.returns-in-Draft-clause-ready
-returns-in-Draft-clause-ready g c = c.draft.ensures.ready _
+returns-in-Draft-clause-ready g c = c.of_draft.ensures.ready _
