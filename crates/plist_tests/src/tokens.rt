@@ -33,6 +33,14 @@ fn a_step_at_a_time(rt: HostRuntime) -> Result<(), Fail> {
     Ok(())
 }
 
+// Returns where the punctuation mark begins and ends, if only whitespace precedes it.
+fn mark_of(octets: &[u8], mark: char) -> Result<Option<(usize, usize)>, LexFault> {
+    match next_mark(open(octets)?, mark) {
+        Some((token, _)) => Ok(Some((token.start, token.end))),
+        None => Ok(None),
+    }
+}
+
 // An input, a punctuation mark, and where it begins and ends if it is read.
 const MARKS: [(&[u8], char, Option<(usize, usize)>); 5] = [
     (b" \t= 1", '=', Some((2, 3))),
@@ -45,8 +53,7 @@ const MARKS: [(&[u8], char, Option<(usize, usize)>); 5] = [
 #[test]
 fn a_mark_after_whitespace_alone(rt: HostRuntime) -> Result<(), Fail> {
     for (octets, mark, span) in MARKS {
-        let found = next_mark(open(octets)?, mark).map(|(token, _)| (token.start, token.end));
-        assert_eq!(rt; found, span);
+        assert_eq!(rt; mark_of(octets, mark)?, span);
     }
     Ok(())
 }
