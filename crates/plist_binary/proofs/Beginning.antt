@@ -2,7 +2,7 @@
 use Rattle.std.proofs.Common.{◌≡◌, ℕ, suc, ◌+◌, ◌-◌, ◌<◌, List, [], ◌∷◌, ◌++◌, ◌≤◌, length, take, drop, slice_index, refl, sym, ap, ◌∙◌, subst, arith}
 use Rattle.std.proofs.lemmas.List.{append_assoc, append-nil}
 use Rattle.std.proofs.lemmas.List.Elements.{Contains-append_left, Contains-append_right}
-use Rattle.plist_value.specs.Plist.{Items, no_items, AreItems}
+use Rattle.plist_value.specs.Plist.{Items, no_items}
 use Rattle.std.specs.List.{Contains}
 use Rattle.plist_value.specs.Limits.{nodes_of_items, depth_of_items, payload_of_items}
 use Rattle.plist_value.specs.declared.TheConstants.{MAX_DEPTH}
@@ -11,7 +11,6 @@ use Rattle.plist_value.specs.declared.budget.Budget.{Budget}
 use Rattle.plist_object.specs.Layout.{IsLaid}
 use Rattle.plist_object.specs.Objects.{holds_list, holds_table}
 use Rattle.plist_object.specs.Places.{Holds}
-use Rattle.plist_object.specs.References.{references_of}
 use Rattle.plist_binary.specs.Begins.{Comes, Begins, IsBegun, AreNext}
 use Rattle.plist_binary.specs.Budgets.{limits}
 use Rattle.plist_binary.specs.declared.progress.Progress.{Progress}

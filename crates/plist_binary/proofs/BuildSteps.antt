@@ -1,23 +1,31 @@
 -- Building the value of a validated file: the parts of what is encoded.
-use Rattle.std.proofs.Common.{◌≡◌, ℕ, ◌+◌, ◌-◌, ◌<◌, ◌≤◌, List, [], ◌∷◌, ◌++◌, length, take, slice_index, refl, sym, subst, ⊎_elim, arith}
-use Rattle.std.specs.List.{IsDistinct, zip}
+use Rattle.std.proofs.Common.{◌≡◌, ℕ, ◌+◌, ◌-◌, ◌<◌, ◌≤◌, List, [], ◌∷◌, ◌++◌, length, take, get_or, slice_index, nat_cmp, refl, sym, subst, ◌∙◌, ⊎_elim, arith}
+use Rattle.std.specs.BTreeMap.{insert_entry}
+use Rattle.std.specs.Cmp.Lexicographic.{slice_cmp}
+use Rattle.std.specs.List.{zip}
 use Rattle.std.specs.List.Sorted.{IsPermutation}
+use Rattle.std.proofs.lemmas.List.{take_more}
+use Rattle.std.proofs.lemmas.List.Sorted.{IsPermutation-to_front, IsPermutation-trans}
+use Rattle.std.proofs.lemmas.Slice.Zip.{get_or-zip, length-zip}
+use Rattle.plist_value.specs.declared.value.Value.{Value}
 use Rattle.plist_value.specs.Plist.{text, Plist, scalar, list, table, Items, no_items, item, Pairs, IsPlist, AreItems}
 use Rattle.plist_value.specs.Limits.{depth, depth_of_items}
-use Rattle.plist_value.specs.View.{items_of}
+use Rattle.plist_value.specs.View.{view, view_pairs, items_of}
+use Rattle.plist_value.proofs.Items.{push, AreItems-push, some_depth}
+use Rattle.plist_value.proofs.Pairs.{Entry, view_pairs-insert_entry}
 use Rattle.plist_object.specs.Layout.{trailer_of}
 use Rattle.plist_object.specs.Objects.{holds_scalar, holds_list, holds_table}
-use Rattle.plist_object.specs.Places.{Holds}
+use Rattle.plist_object.specs.Places.{Holds, HoldsText}
 use Rattle.plist_object.specs.Spelled.{IsBinary, Spells, SpellItems, SpellsWithin}
 use Rattle.plist_object.proofs.Ascending.{Among, Among-contains}
 use Rattle.plist_object.proofs.Uniqueness.{same_held, same_value}
-use Rattle.plist_binary.specs.Building.{AllSpellWithin, AllSpellTexts, SpellsText, SpellsPairsWithin, HoldsSome, AreSpelled, AreTexts, PairsSpelled, IsSpelled}
-use Rattle.plist_binary.specs.Readings.{texts}
-use Rattle.plist_binary.proofs.ItemSteps.{Spells-held, texts-push, next, SpellItems-push}
-use Rattle.plist_binary.proofs.Ascents.{same_key}
-use Rattle.plist_binary.proofs.Sorting.{same_texts}
-use Rattle.plist_value.proofs.Items.{push, AreItems-push}
-use Rattle.plist_binary.proofs.TableSteps.{Unsorted, unsort}
+use Rattle.plist_binary.specs.Building.{AllSpellWithin, SpellsPairsWithin, HoldsSome, AreSpelled, IsSpelled}
+use Rattle.plist_binary.specs.Readings.{PairsSpelled}
+use Rattle.plist_binary.proofs.Inserting.{PairsSpelled-put, rows_apart}
+use Rattle.plist_binary.proofs.ItemSteps.{Contains-at, Spells-held, next, SpellItems-push}
+use Rattle.plist_binary.proofs.Rows.{IsRow}
+use Rattle.plist_binary.proofs.Sorting.{NameTexts-read}
+use Rattle.plist_binary.proofs.TableSteps.{unsort}
 
 pub HoldsSome-within : (f : List ℕ) (i levels : ℕ) → SpellsWithin f i levels → HoldsSome f i
 HoldsSome-within f i levels within = Spells-held f i within.value within.spells
@@ -64,42 +72,58 @@ table_within f keys values i levels (table ps) long holds spells valid deep =
     let held = same_held f i (holds_table keys values) (holds_table spells.0 spells.1.0) holds spells.1.1.1.0 in
     let same : zip spells.0 spells.1.0 ≡ zip keys values = cc in
     record {
-      rows = spells.1.1.0;
       pairs = ps;
       long = long;
-      moved = subst (λ (rows : List (ℕ × ℕ)). IsPermutation rows spells.1.1.0) same spells.1.1.1.1.0;
-      spell = spells.1.1.1.1.1;
-      valid = valid;
+      spelled = record {
+        rows = spells.1.1.0;
+        moved = subst (λ (rows : List (ℕ × ℕ)). IsPermutation rows spells.1.1.0) same spells.1.1.1.1.0;
+        spell = spells.1.1.1.1.1;
+        valid = valid;
+      };
       deep = omega arith;
     }
 
 pub SpellsPairsWithin-table : (f keys values : List ℕ) (i levels : ℕ) → length keys ≡ length values → Holds f i (holds_table keys values) → SpellsWithin f i levels → SpellsPairsWithin f keys values (levels - 1)
 SpellsPairsWithin-table f keys values i levels long holds within = table_within f keys values i levels within.value long holds within.spells within.valid within.deep
 
--- the keys and the values of a dictionary in the order of the file
-pub unsorted : (f keys values : List ℕ) (levels : ℕ) (within : SpellsPairsWithin f keys values levels) → Unsorted f keys values levels within.pairs
-unsorted f keys values levels within = unsort f keys values levels within.rows within.pairs within.long within.moved within.spell within.valid within.deep
+-- the key and the value at a position
+pub HoldsText-key : (f keys values : List ℕ) (levels k i : ℕ) → k < length keys → i ≡ slice_index keys k → SpellsPairsWithin f keys values levels → HoldsText f i
+HoldsText-key f keys values levels k i below is within =
+    let apart = unsort f keys values levels within.pairs within.long within.spelled within.deep in
+    subst (HoldsText f) (sym is) (NameTexts-read f keys apart.us apart.spell_keys k below)
 
-texts_within : (f keys : List ℕ) (us : List (List ℕ)) (i : ℕ) → SpellItems f keys (texts us) → Among i keys → SpellsText f i
-texts_within f [] us i spell among = absurd among
-texts_within f (k ∷ keys) [] i spell among = absurd (let none : k ∷ keys ≡ [] = spell in cc)
-texts_within f (k ∷ keys) (u ∷ us) i spell among =
-    ⊎_elim
-    (λ (same : i ≡ k). (u, subst (λ (j : ℕ). Holds f j (holds_scalar (text u))) (sym same) spell.0))
-    (λ (later : Among i keys). texts_within f keys us i spell.1 later)
-    among
+pub SpellsWithin-value : (f keys values : List ℕ) (levels k i : ℕ) → k < length keys → i ≡ slice_index values k → SpellsPairsWithin f keys values levels → SpellsWithin f i levels
+SpellsWithin-value f keys values levels k i below is within =
+    let apart = unsort f keys values levels within.pairs within.long within.spelled within.deep in
+    let many = within.long in
+    AllSpellWithin-items f values levels (items_of apart.vs) apart.spell_values apart.valid_values apart.deep_values i (Contains-at values k i (omega arith) is)
 
-pub AllSpellTexts-keys : (f keys values : List ℕ) (levels : ℕ) → SpellsPairsWithin f keys values levels → AllSpellTexts f keys
-AllSpellTexts-keys f keys values levels within i among =
-    let apart = unsorted f keys values levels within in
-    texts_within f keys apart.us i apart.spell_keys (Among-contains i keys among)
+-- one more pair of a dictionary
+pub PairsSpelled-next : (f keys values : List ℕ) (levels k i j : ℕ) (units : List ℕ) (v : Value) (es new : List Entry) → k < length keys → i ≡ slice_index keys k → j ≡ slice_index values k → SpellsPairsWithin f keys values levels → IsSpelled f i (scalar (text units)) → IsSpelled f j (view v) → new ≡ insert_entry (slice_cmp nat_cmp) es units v → PairsSpelled f (take k (zip keys values)) (view_pairs es) → PairsSpelled f (take (k + 1) (zip keys values)) (view_pairs new)
+PairsSpelled-next f keys values levels k i j units v es new below key_is value_is within key value put spelled =
+    let all = zip keys values in
+    let row = get_or all k (0, 0) in
+    let many = within.long in
+    let inside : k < length all = omega (arith, length-zip keys values) in
+    let at : row ≡ (i, j) = get_or-zip keys values k (0, 0) below (omega arith) ∙ rw (sym key_is, sym value_is) refl in
+    let one : IsRow f (depth (view v)) (row, (units, view v)) = rw at record {
+      key = key.spells;
+      value = value.spells;
+      units = key.valid;
+      valid = value.valid;
+      deep = omega arith;
+      some = some_depth (view v);
+    } in
+    let more = (PairsSpelled-put f (depth (view v)) row (take k all) units (view v) (view_pairs es) one (rows_apart f all within.pairs k (0, 0) inside within.spelled) spelled).spelled in
+    let pushed : take (k + 1) all ≡ take k all ++ row ∷ [] = take_more all k (0, 0) inside in
+    rw (put, view_pairs-insert_entry es units v) record {
+      rows = more.rows;
+      moved = rw pushed (IsPermutation-trans (take k all ++ row ∷ []) (row ∷ take k all) more.rows (IsPermutation-to_front (take k all) row) more.moved);
+      spell = more.spell;
+      valid = more.valid;
+    }
 
-pub AllSpellWithin-values : (f keys values : List ℕ) (levels : ℕ) → SpellsPairsWithin f keys values levels → AllSpellWithin f values levels
-AllSpellWithin-values f keys values levels within =
-    let apart = unsorted f keys values levels within in
-    AllSpellWithin-items f values levels (items_of apart.vs) apart.spell_values apart.valid_values apart.deep_values
-
-pub IsSpelled-table : (f keys values : List ℕ) (i : ℕ) (ps : Pairs) → Holds f i (holds_table keys values) → PairsSpelled f keys values ps → IsSpelled f i (table ps)
+pub IsSpelled-table : (f keys values : List ℕ) (i : ℕ) (ps : Pairs) → Holds f i (holds_table keys values) → PairsSpelled f (zip keys values) ps → IsSpelled f i (table ps)
 IsSpelled-table f keys values i ps holds are = record {
   spells = (keys, (values, (are.rows, (holds, (are.moved, are.spell)))));
   valid = are.valid;
@@ -110,22 +134,6 @@ AreSpelled-next f refs k i vs v within is are one = record {
   spell = subst (λ (xs : List ℕ). SpellItems f xs (push vs v)) (next refs k i within is) (SpellItems-push f (take k refs) vs i v are.spell one.spells);
   valid = AreItems-push vs v are.valid one.valid;
 }
-
-pub AreTexts-next : (f refs : List ℕ) (k i : ℕ) (keys : List (List ℕ)) (units : List ℕ) → k < length refs → i ≡ slice_index refs k → AreTexts f (take k refs) keys → Holds f i (holds_scalar (text units)) → AreTexts f (take (k + 1) refs) (keys ++ units ∷ [])
-AreTexts-next f refs k i keys units within is are one = record {
-  spell = subst (λ (vs : Items). SpellItems f (take (k + 1) refs) vs) (sym (texts-push keys units)) (subst (λ (xs : List ℕ). SpellItems f xs (push (texts keys) (scalar (text units)))) (next refs k i within is) (SpellItems-push f (take k refs) (texts keys) i (scalar (text units)) are.spell one));
-}
-
--- the strings of the keys of a dictionary
-pub distinct_texts : (f keys values : List ℕ) (levels : ℕ) (us : List (List ℕ)) → SpellsPairsWithin f keys values levels → AreTexts f keys us → IsDistinct same_key us
-distinct_texts f keys values levels us within are =
-    let apart = unsorted f keys values levels within in
-    subst (λ (l : List (List ℕ)). IsDistinct same_key l) (same_texts f keys apart.us us apart.spell_keys are.spell) apart.distinct
-
-pub valid_texts : (f keys values : List ℕ) (levels : ℕ) (us : List (List ℕ)) → SpellsPairsWithin f keys values levels → AreTexts f keys us → AreItems (texts us)
-valid_texts f keys values levels us within are =
-    let apart = unsorted f keys values levels within in
-    subst (λ (l : List (List ℕ)). AreItems (texts l)) (same_texts f keys apart.us us apart.spell_keys are.spell) apart.valid_keys
 
 -- the value that was built is the one that the file encodes
 pub IsBinary-built : (f : List ℕ) (v w : Plist) → IsBinary f w → IsSpelled f (trailer_of f).top v → IsBinary f v

@@ -1,6 +1,6 @@
 -- Why a node is refused. An object has fewer nodes than one that leads to it, so a cycle encodes
 -- nothing.
-use Rattle.std.proofs.Common.{◌≡◌, ℕ, ◌+◌, List, [], ◌∷◌, length, get_or, zero, refl, Ok, Err, sym, subst, suc, ◌≤◌, ⊎_elim, inl, inr, arith, ◌-◌, ◌<◌}
+use Rattle.std.proofs.Common.{◌≡◌, ℕ, ◌+◌, List, [], ◌∷◌, length, get_or, zero, refl, Err, sym, subst, suc, ◌≤◌, ⊎_elim, inl, inr, arith, ◌-◌, ◌<◌}
 use Rattle.std.specs.List.{Contains, zip}
 use Rattle.std.proofs.lemmas.List.Elements.{Contains-append_cases}
 use Rattle.plist_value.specs.Plist.{text, Plist, scalar, list, table, Items, no_items, item, Pairs, no_pairs, pair, AreOctets, IsPlist, AreItems, ArePairs}

@@ -1,9 +1,8 @@
-pub mod Ascents
 pub mod Beginning
 pub mod Entering
+pub mod Inserting
 pub mod ItemSteps
 pub mod Making
-pub mod Placed
 pub mod Rows
 pub mod TableSteps
 mod Worked

@@ -1,5 +1,5 @@
 -- What an object encodes, from what its content, its items or its pairs took of the budget.
-use Rattle.std.proofs.Common.{◌≡◌, ℕ, ◌+◌, ◌-◌, ◌<◌, ◌≤◌, List, Bool, ◌∙◌, ap, subst, arith, ◌∷◌, refl, true, false, sym, ⊎_elim, inl, inr}
+use Rattle.std.proofs.Common.{◌≡◌, ℕ, ◌-◌, ◌<◌, ◌≤◌, List, Bool, ◌∙◌, ap, subst, arith, ◌∷◌, refl, true, false, sym, ⊎_elim, inl, inr}
 use Rattle.std.specs.Prelude.{◌≢◌, ◌&&◌}
 use Rattle.std.specs.List.{zip, Contains}
 use Rattle.std.specs.List.Sorted.{IsPermutation}
@@ -96,8 +96,8 @@ Refuses-list {f} {node} {before} {left} {fault} refs holds taken refused = recor
 -- a dictionary, from its pairs, which may be one level less deep
 pub Reads-table : {f : List ℕ} {node : Node} {before left : Progress} (keys values : List ℕ) (after : Budget) (ps : Pairs) → Holds f node.object (holds_table keys values) → IsTaken f node before left → ReadsPairs f keys values (node.levels - 1) left.left ps after → Reads f node.object node.levels before.left (table ps) after
 Reads-table keys values after ps holds taken pairs = record {
-  spells = (keys, (values, (pairs.rows, (holds, (pairs.moved, pairs.spell)))));
-  valid = pairs.valid;
+  spells = (keys, (values, (pairs.spelled.rows, (holds, (pairs.spelled.moved, pairs.spelled.spell)))));
+  valid = pairs.spelled.valid;
   deep = omega (arith, pairs.deep, taken.deep);
   spent = Spends-then taken.spent pairs.spent (omega arith) (omega arith);
 }
@@ -110,7 +110,7 @@ table_refused f keys values i levels before left fault (list ws) holds node refu
 table_refused f keys values i levels before left fault (table ps) holds node refused unless valid spells deep affords =
     let held = same_held f i (holds_table keys values) (holds_table spells.0 spells.1.0) holds spells.1.1.1.0 in
     let same : zip spells.0 spells.1.0 ≡ zip keys values = cc in
-    refused.none unless spells.1.1.0 ps (subst (λ (rows : List (ℕ × ℕ)). IsPermutation rows spells.1.1.0) same spells.1.1.1.1.0) spells.1.1.1.1.1 valid (omega arith) (Affords-rest node affords (omega arith) (omega arith))
+    refused.none unless ps record { rows = spells.1.1.0; moved = subst (λ (rows : List (ℕ × ℕ)). IsPermutation rows spells.1.1.0) same spells.1.1.1.1.0; spell = spells.1.1.1.1.1; valid = valid } (omega arith) (Affords-rest node affords (omega arith) (omega arith))
 
 pub Refuses-table : {f : List ℕ} {node : Node} {before left : Progress} {fault : BinaryFault} (keys values : List ℕ) → Holds f node.object (holds_table keys values) → IsTaken f node before left → RefusesPairs f keys values (node.levels - 1) left.left fault → RefusesNode f node before fault
 Refuses-table {f} {node} {before} {left} {fault} keys values holds taken refused = record {
@@ -203,7 +203,6 @@ IsProgress-last {f} {path} {j} {progress} new so_far = record {
     each = λ i apart. narrower f path progress.writable j i (state_at_object progress.states.items i) apart (so_far.states.each i);
     opened = λ i apart among. so_far.states.opened i (Contains-among i (j ∷ path) (inr (Among-contains i path among)));
   };
-  last = so_far.last;
   ready = so_far.ready;
   within = so_far.within;
 }

@@ -1,22 +1,18 @@
 -- What is passed, from its content, its items or its pairs, or from what was known of it.
-use Rattle.std.proofs.Common.{◌≡◌, ℕ, ◌+◌, ◌-◌, ◌<◌, ◌≤◌, Bool, true, refl, max, List, [], ◌∷◌, ◌++◌, length, map, take, slice_index, Ok, ap, sym, ◌∙◌, subst, arith}
+use Rattle.std.proofs.Common.{◌≡◌, ℕ, ◌+◌, ◌-◌, ◌<◌, ◌≤◌, Bool, refl, max, List, [], ◌∷◌, ◌++◌, length, take, slice_index, ap, sym, ◌∙◌, subst, arith}
 use Rattle.std.specs.Prelude.{◌&&◌}
-use Rattle.std.specs.Ordering.{nat_cmp}
-use Rattle.std.specs.Cmp.Lexicographic.{slice_cmp}
-use Rattle.std.specs.List.{zip}
-use Rattle.std.specs.List.Sorted.{IsPermutation, IsStrictlySortedBy}
+use Rattle.std.specs.List.{IsDistinct}
 use Rattle.std.proofs.lemmas.Bool.{and_parts}
-use Rattle.std.proofs.lemmas.List.Sorted.{IsPermutation-map}
-use Rattle.std.proofs.lemmas.Slice.Zip.{seconds-zip}
 use Rattle.plist_value.specs.declared.budget.Budget.{Budget}
 use Rattle.plist_value.specs.Budget.{Spends}
-use Rattle.plist_value.specs.Plist.{Scalar, Plist, scalar, text, list, table, Items, IsScalar}
+use Rattle.plist_value.specs.Plist.{Scalar, scalar, text, list, table, Items, IsScalar}
 use Rattle.plist_value.specs.Limits.{payload_of_scalar}
-use Rattle.plist_value.specs.View.{items_of, pairs_of}
+use Rattle.plist_value.specs.View.{items_of}
 use Rattle.plist_value.specs.Writable.{is_writable, is_writable_scalar, are_writable_items, are_writable_pairs}
 use Rattle.plist_object.specs.Layout.{trailer_of}
 use Rattle.plist_object.specs.Objects.{holds_scalar, holds_list, holds_table}
 use Rattle.plist_object.specs.Places.{Holds}
+use Rattle.plist_keys.proofs.Ascents.{same_key}
 use Rattle.plist_binary.specs.declared.states.ValueSize.{ValueSize}
 use Rattle.plist_binary.specs.States.{IsKey, IsValueSize}
 use Rattle.plist_binary.specs.declared.progress.Progress.{Progress}
@@ -24,13 +20,12 @@ use Rattle.plist_binary.specs.declared.walker.Node.{Node}
 use Rattle.plist_binary.specs.Passing.{Passes, PassesItems, PassesPairs}
 use Rattle.plist_binary.specs.Progress.{IsTaken}
 use Rattle.plist_binary.specs.Readings.{Reads, ReadsItems, ReadsKey, texts}
-use Rattle.plist_binary.proofs.Ascents.{zip-firsts}
+use Rattle.plist_binary.proofs.Inserting.{gather}
 use Rattle.plist_binary.proofs.ItemSteps.{ReadsItems-next, Spends-then, Spends-none}
 use Rattle.plist_binary.proofs.Making.{Reads-scalar, Reads-list, Reads-table}
-use Rattle.plist_binary.proofs.Rows.{pull}
-use Rattle.plist_binary.proofs.Writable.{kept, writable-moved, writable-next}
+use Rattle.plist_binary.proofs.Writable.{kept, writable-next}
 use Rattle.plist_value.proofs.Items.{items_of-push, depth-push}
-use Rattle.plist_binary.proofs.TableSteps.{ReadsPairs-sorted, pairs_sorted, depth-texts, length-texts, length-items}
+use Rattle.plist_binary.proofs.TableSteps.{length-texts, length-items}
 
 -- a value that is known and fits
 pub Passes-size : (f : List ℕ) (i levels : ℕ) (before after : Budget) (size : ValueSize) (all : Bool) → IsValueSize f all i size → size.depth ≤ levels → Spends before size.nodes size.payload after → Passes f i levels before size.depth after all all
@@ -98,22 +93,20 @@ PassesItems-next f refs k i levels before left after deepest deep within is list
       within = omega (arith, items.within, one.within);
     }
 
--- keys that were read, and have a sorted order, and values that were passed
-pub PassesPairs-sorted : {first all : Bool} (f keys values : List ℕ) (levels : ℕ) (before left after : Budget) (us sorted : List (List ℕ)) (deep : ℕ) → length keys ≡ length values → ReadsItems f keys levels before (texts us) left → PassesItems f values levels left deep after first all → IsPermutation us sorted → IsStrictlySortedBy (slice_cmp nat_cmp) sorted → PassesPairs f keys values levels before deep after first all
-PassesPairs-sorted f keys values levels before left after us sorted deep long read passed moved ascend =
+-- distinct keys that were read, and values that were passed
+pub PassesPairs-read : {first all : Bool} (f keys values : List ℕ) (levels : ℕ) (before left after : Budget) (us : List (List ℕ)) (deep : ℕ) → length keys ≡ length values → ReadsItems f keys levels before (texts us) left → PassesItems f values levels left deep after first all → IsDistinct same_key us → PassesPairs f keys values levels before deep after first all
+PassesPairs-read f keys values levels before left after us deep long read passed distinct =
     let vs = passed.values in
-    let many : length us ≡ length vs = omega (arith, length-texts f keys us read.spell, length-items f values vs passed.reads.spell) in
-    let firsts : List ℕ × Plist → List ℕ = λ p. p.0 in
-    let to_sorted = subst (λ (l : List (List ℕ)). IsPermutation l sorted) (sym (zip-firsts us vs many)) moved in
-    let pulled = pull firsts (zip us vs) sorted to_sorted in
-    let seconds : List ℕ × Plist → Plist = λ p. p.1 in
-    let in_order = subst (λ (l : List Plist). IsPermutation l (map seconds pulled.moved_list)) (seconds-zip us vs (sym many)) (IsPermutation-map seconds (zip us vs) pulled.moved_list pulled.moved) in
-    let ordered = subst (λ (l : List (List ℕ)). IsStrictlySortedBy (slice_cmp nat_cmp) l) (sym pulled.maps) ascend in
+    let both = gather f keys values us vs long (length-texts f keys us read.spell) (length-items f values vs passed.reads.spell) read.spell passed.reads.spell read.valid passed.reads.valid distinct in
     record {
-      pairs = pairs_of pulled.moved_list;
-      writable = rw (writable-moved vs pulled.moved_list in_order) passed.writable;
-      reads = ReadsPairs-sorted f keys values levels before left after us vs pulled.moved_list long read passed.reads pulled.moved ordered;
-      depth_is = (pairs_sorted f keys values deep us vs pulled.moved_list read.spell passed.reads.spell read.valid passed.reads.valid (omega (arith, depth-texts us vs many, passed.depth_is)) passed.depth_is many pulled.moved ordered).deep;
+      pairs = both.pairs;
+      writable = rw both.writable passed.writable;
+      reads = record {
+        spelled = both.spelled;
+        deep = omega (arith, both.deep, passed.reads.deep);
+        spent = Spends-then read.spent passed.reads.spent both.nodes_sum both.payload_sum;
+      };
+      depth_is = omega (arith, both.deep, passed.depth_is);
       within = passed.within;
     }
 

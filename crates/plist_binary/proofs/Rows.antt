@@ -12,12 +12,12 @@ use Rattle.std.proofs.lemmas.List.Sorted.{IsPermutation-refl, IsPermutation-swap
 use Rattle.std.proofs.lemmas.List.Sums.{sum_by-cons}
 use Rattle.plist_value.specs.Plist.{text, Plist, Pairs, no_pairs, pair, AreUnits, IsPlist, AreItems, ArePairs, IsKeyBelow}
 use Rattle.plist_value.specs.Limits.{nodes, depth, payload, nodes_of_items, depth_of_items, payload_of_items, nodes_of_pairs, depth_of_pairs, payload_of_pairs}
-use Rattle.plist_value.specs.View.{items_of, pairs_of}
+use Rattle.plist_value.specs.View.{items_of}
 use Rattle.plist_object.specs.Objects.{holds_scalar}
 use Rattle.plist_object.specs.Places.{Holds}
 use Rattle.plist_object.specs.Spelled.{Spells, SpellItems, SpellPairs}
 use Rattle.plist_binary.specs.Readings.{texts}
-use Rattle.plist_binary.proofs.Ascents.{distinct_from_ascent, same_key}
+use Rattle.plist_keys.proofs.Ascents.{distinct_from_ascent, same_key}
 use Rattle.plist_value.proofs.Keys.{below_next}
 
 map-swap : {A B : Type 0} (g : A → B) (xs : List A) (i j : ℕ) → i < length xs → j < length xs → map g (swap xs i j) ≡ swap (map g xs) i j
@@ -164,56 +164,3 @@ nodes-rows (p ∷ ps) = omega (arith, nodes-rows ps, sum_by-cons nodes_of_pair p
 pub payload-rows : (ps : List (List ℕ × Plist)) → sum_by payload_of_pair ps ≡ payload_of_items (texts (map (λ (p : List ℕ × Plist). p.0) ps)) + payload_of_items (items_of (map (λ (p : List ℕ × Plist). p.1) ps))
 payload-rows [] = refl
 payload-rows (p ∷ ps) = omega (arith, payload-rows ps, sum_by-cons payload_of_pair p ps)
-
--- from the keys and the values separately
-
-pub AreRows-items : (f : List ℕ) (levels : ℕ) (keys values : List ℕ) (us : List (List ℕ)) (vs : List Plist) → length us ≡ length vs → SpellItems f keys (texts us) → SpellItems f values (items_of vs) → AreItems (texts us) → AreItems (items_of vs) → depth_of_items (texts us) ≤ levels → depth_of_items (items_of vs) ≤ levels → AreRows f levels (zip (zip keys values) (zip us vs)) × (length (zip keys values) ≡ length (zip us vs))
-AreRows-items f levels [] values [] vs long spell_keys spell_values valid_keys valid_values deep_keys deep_values = (tt, refl)
-AreRows-items f levels [] values (u ∷ us) vs long spell_keys spell_values valid_keys valid_values deep_keys deep_values = absurd spell_keys
-AreRows-items f levels (k ∷ keys) values [] vs long spell_keys spell_values valid_keys valid_values deep_keys deep_values =
-    absurd (let none : k ∷ keys ≡ [] = spell_keys in cc)
-AreRows-items f levels (k ∷ keys) values (u ∷ us) [] long spell_keys spell_values valid_keys valid_values deep_keys deep_values = absurd (omega arith)
-AreRows-items f levels (k ∷ keys) [] (u ∷ us) (v ∷ vs) long spell_keys spell_values valid_keys valid_values deep_keys deep_values = absurd spell_values
-AreRows-items f levels (k ∷ keys) (w ∷ values) (u ∷ us) (v ∷ vs) long spell_keys spell_values valid_keys valid_values deep_keys deep_values =
-    let rest = AreRows-items f levels keys values us vs (omega arith) spell_keys.1 spell_values.1 valid_keys.1 valid_values.1 (omega arith) (omega arith) in (
-      (
-        record {
-          key = spell_keys.0;
-          value = spell_values.0;
-          units = valid_keys.0;
-          valid = valid_values.0;
-          deep = omega arith;
-          some = omega arith;
-        },
-        rest.0,
-      ),
-      omega (arith, rest.1),
-    )
-
--- to pairs
-
-pub SpellPairs-rows : (f : List ℕ) (levels : ℕ) (rs : List Row) → AreRows f levels rs → SpellPairs f (map (λ (r : Row). r.0) rs) (pairs_of (map (λ (r : Row). r.1) rs))
-SpellPairs-rows f levels [] rows = refl
-SpellPairs-rows f levels (r ∷ rs) rows = (rows.0.key, rows.0.value, SpellPairs-rows f levels rs rows.1)
-
-first_below : (key : List ℕ) (ps : List (List ℕ × Plist)) → AllByRecursion (λ k. slice_cmp nat_cmp key k ≡ Less) (keys_of ps) → IsKeyBelow key (pairs_of ps)
-first_below key [] above = tt
-first_below key (p ∷ ps) above = above.0
-
-pub ArePairs-rows : (f : List ℕ) (levels : ℕ) (rs : List Row) → AreRows f levels rs → IsStrictlySortedBy (slice_cmp nat_cmp) (keys_of (map (λ (r : Row). r.1) rs)) → ArePairs (pairs_of (map (λ (r : Row). r.1) rs)) × (depth_of_pairs (pairs_of (map (λ (r : Row). r.1) rs)) ≤ levels)
-unfolding IsStrictlySortedBy
-ArePairs-rows f levels [] rows ascend = (tt, omega arith)
-ArePairs-rows f levels (r ∷ rs) rows ascend =
-    let rest = ArePairs-rows f levels rs rows.1 ascend.1 in
-    let deep = rows.0.deep in
-    let some = rows.0.some in
-    ((rows.0.units, rows.0.valid, first_below r.1.0 (map (λ (r : Row). r.1) rs) ascend.0, rest.0), omega (arith, rest.1))
-
-pub nodes-pairs_of : (ps : List (List ℕ × Plist)) → nodes_of_pairs (pairs_of ps) ≡ sum_by nodes_of_pair ps
-nodes-pairs_of [] = refl
-nodes-pairs_of (p ∷ ps) = omega (arith, nodes-pairs_of ps, sum_by-cons nodes_of_pair p ps)
-
-pub payload-pairs_of : (ps : List (List ℕ × Plist)) → payload_of_pairs (pairs_of ps) ≡ sum_by payload_of_pair ps
-payload-pairs_of [] = refl
-payload-pairs_of (p ∷ ps) =
-    omega (arith, payload-pairs_of ps, sum_by-cons payload_of_pair p ps)

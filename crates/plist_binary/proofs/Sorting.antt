@@ -1,73 +1,23 @@
--- The keys of a dictionary as they are kept, recalled and sorted.
-use Rattle.std.proofs.Common.{◌≡◌, ℕ, ◌-◌, ◌<◌, ◌≤◌, List, [], ◌∷◌, length, refl, arith, ◌++◌, get_or, take, drop, slice_index, sym, ap, subst, ◌∙◌}
-use Rattle.std.specs.Ordering.{nat_cmp}
-use Rattle.std.specs.Cmp.Lexicographic.{slice_cmp}
+-- The keys of a dictionary as they are sorted.
+use Rattle.std.proofs.Common.{◌≡◌, ℕ, List, [], length, arith, get_or, slice_index, sym, ap, subst, ◌∙◌}
 use Rattle.std.specs.List.{IsDistinct, range_with_len}
-use Rattle.std.specs.List.Sorted.{IsPermutation, IsStrictlySortedBy}
+use Rattle.std.specs.List.Sorted.{IsPermutation}
 use Rattle.std.proofs.lemmas.Cmp.{nat_list_cmp_total, eq_by_cmp_equiv}
-use Rattle.std.proofs.lemmas.List.{take_at}
 use Rattle.std.proofs.lemmas.List.FromFn.{fill_by_all}
-use Rattle.std.proofs.lemmas.List.Sorted.{IsPermutation-map, length_permutation}
+use Rattle.std.proofs.lemmas.List.Sorted.{IsPermutation-map, IsPermutation-sym}
 use Rattle.std.proofs.lemmas.Map.Keys.{IsDistinct-IsPermutation}
-use Rattle.plist_value.specs.Limits.{nodes_of_items, depth_of_items}
 use Rattle.plist_value.specs.declared.budget.Budget.{Budget}
-use Rattle.plist_value.specs.Budget.{Spends}
 use Rattle.plist_keys.specs.Order.{Ascend, IsInOrder, NameTexts, strings_at}
 use Rattle.plist_object.specs.Places.{units_in}
 use Rattle.plist_value.specs.Plist.{text}
 use Rattle.plist_object.specs.Objects.{holds_scalar}
 use Rattle.plist_object.specs.Places.{Holds, what_holds}
 use Rattle.plist_object.specs.Spelled.{SpellItems}
-use Rattle.plist_keys.proofs.Ascents.{same_key, strict_from_distinct}
-use Rattle.plist_binary.proofs.ItemSteps.{Spends-then, Spends-none}
+use Rattle.plist_keys.proofs.Ascents.{same_key, distinct_from_ascent, strict_from_distinct}
 use Rattle.plist_binary.specs.declared.fault.BinaryFault.TheVariants.{DuplicateKey}
 use Rattle.plist_binary.specs.Paths.{EndsPath, HasKeys}
 use Rattle.plist_binary.specs.Readings.{ReadsItems, RefusesKeys, texts}
-use Rattle.plist_binary.specs.Recalls.{SpellApart, ReadsApart}
 use Rattle.plist_binary.proofs.TableSteps.{length-texts, key_held, twice}
-
-nodes-texts : (keys : List (List ℕ)) → nodes_of_items (texts keys) ≡ length keys
-nodes-texts [] = refl
-nodes-texts (key ∷ keys) = omega (arith, nodes-texts keys)
-
-depth-one : (keys : List (List ℕ)) → depth_of_items (texts keys) ≤ 1
-depth-one [] = omega arith
-depth-one (key ∷ keys) = omega (arith, depth-one keys)
-
--- keys that are known and fit
-pub ReadsApart-known : (f refs : List ℕ) (levels payload : ℕ) (before after : Budget) → SpellApart f refs payload → 1 ≤ levels → Spends before (length refs) payload after → ReadsApart f refs levels before after
-ReadsApart-known f refs levels payload before after known some spent =
-    let one = depth-one known.keys in
-    let many = nodes-texts known.keys in
-    let long = length-texts f refs known.keys known.spell in
-    record {
-      keys = known.keys;
-      reads = record {
-        spell = known.spell;
-        valid = known.valid;
-        deep = omega arith;
-        spent = Spends-then spent (Spends-none after) (omega arith) (omega (arith, known.payload_is));
-      };
-      apart = known.apart;
-    }
-
--- keys that were read, and have a sorted order
-pub ReadsApart-sorted : (f refs : List ℕ) (levels : ℕ) (before after : Budget) (keys sorted : List (List ℕ)) → ReadsItems f refs levels before (texts keys) after → IsPermutation keys sorted → IsStrictlySortedBy (slice_cmp nat_cmp) sorted → ReadsApart f refs levels before after
-ReadsApart-sorted f refs levels before after keys sorted reads moved ascend = record {
-  keys = keys;
-  reads = reads;
-  apart = record { sorted = sorted; moved = moved; ascend = ascend };
-}
-
--- such keys are known afterwards
-pub SpellApart-read : (f refs : List ℕ) (levels payload : ℕ) (before after : Budget) → ReadsApart f refs levels before after → payload ≡ before.payload - after.payload → SpellApart f refs payload
-SpellApart-read f refs levels payload before after read is = record {
-  keys = read.keys;
-  spell = read.reads.spell;
-  valid = read.reads.valid;
-  apart = read.apart;
-  payload_is = omega (arith, read.reads.spent.payload_left, is);
-}
 
 -- the strings at all positions are those read
 strings_read : (f refs : List ℕ) (us : List (List ℕ)) → SpellItems f refs (texts us) → us ≡ strings_at f refs (range_with_len 0 (length refs))
@@ -76,7 +26,7 @@ strings_read f refs us spell =
     fill_by_all (λ place. units_in (what_holds f (slice_index refs place))) us (length refs) [] (omega arith) (λ k h. let holds = key_held f refs us k (omega arith) spell in sym (ap units_in holds.reads))
 
 -- the strings in order
-pub strings_moved : (f refs places : List ℕ) (us : List (List ℕ)) → SpellItems f refs (texts us) → IsInOrder f refs places → IsPermutation us (strings_at f refs places)
+strings_moved : (f refs places : List ℕ) (us : List (List ℕ)) → SpellItems f refs (texts us) → IsInOrder f refs places → IsPermutation us (strings_at f refs places)
 strings_moved f refs places us spell order =
     subst (λ (ts : List (List ℕ)). IsPermutation ts (strings_at f refs places)) (sym (strings_read f refs us spell)) (IsPermutation-map (λ place. units_in (what_holds f (slice_index refs place))) (range_with_len 0 (length refs)) places order.moved)
 
@@ -92,8 +42,14 @@ ascend_distinct f refs places us spell order distinct =
     let moved = strings_moved f refs places us spell order in
     strict_from_distinct (strings_at f refs places) order.sorted (IsDistinct-IsPermutation same_key (eq_by_cmp_equiv nat_list_cmp_total).symm us (strings_at f refs places) moved distinct)
 
+-- strings that ascend in their order are distinct
+pub distinct_ascend : (f refs places : List ℕ) (us : List (List ℕ)) → SpellItems f refs (texts us) → IsInOrder f refs places → Ascend f refs places → IsDistinct same_key us
+distinct_ascend f refs places us spell order ascend =
+    let strings = strings_at f refs places in
+    IsDistinct-IsPermutation same_key (eq_by_cmp_equiv nat_list_cmp_total).symm strings us (IsPermutation-sym us strings (strings_moved f refs places us spell order)) (distinct_from_ascent strings ascend)
+
 -- references point to strings in only one way
-pub same_texts : (f refs : List ℕ) (us ws : List (List ℕ)) → SpellItems f refs (texts us) → SpellItems f refs (texts ws) → us ≡ ws
+same_texts : (f refs : List ℕ) (us ws : List (List ℕ)) → SpellItems f refs (texts us) → SpellItems f refs (texts ws) → us ≡ ws
 same_texts f refs us ws first second = strings_read f refs us first ∙ sym (strings_read f refs ws second)
 
 -- two of the keys are equal
@@ -116,9 +72,3 @@ RefusesKeys-twice f keys owner levels before left us ends has read not_distinct 
       };
       none = λ _ ws valid spell distinct deep affords. not_distinct (subst (λ (l : List (List ℕ)). IsDistinct same_key l) (same_texts f keys ws us spell read.spell) distinct);
     }
-
--- a list that was sorted in place
-pub seen_sorted : {A : Type 0} (n : ℕ) (keys written sorted seen : List A) → n ≡ length keys → written ≡ keys → IsPermutation written sorted → seen ≡ take n (sorted ++ drop (length sorted) keys) → seen ≡ sorted
-seen_sorted n keys written sorted seen all first moved last =
-    let long : length sorted ≡ length keys = length_permutation written sorted moved ∙ ap length first in
-    last ∙ take_at sorted (drop (length sorted) keys) n (omega arith)

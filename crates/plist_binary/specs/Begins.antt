@@ -1,6 +1,6 @@
 -- Where an object begins in the value of a file: what comes before it in preorder. All keys of a
 -- dictionary come before its values.
-use Rattle.std.specs.Prelude.{◌≡◌, ℕ, ◌+◌, ◌<◌, ◌≤◌, List, [], ◌∷◌, ◌++◌, length, Result, Ok, Err}
+use Rattle.std.specs.Prelude.{◌≡◌, ℕ, ◌+◌, ◌≤◌, List, [], ◌∷◌, ◌++◌, length, Result, Ok, Err}
 use Rattle.std.specs.List.{Contains}
 use Rattle.plist_value.specs.Plist.{Items, AreItems}
 use Rattle.plist_value.specs.Limits.{nodes_of_items, depth_of_items, payload_of_items}

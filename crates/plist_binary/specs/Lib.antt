@@ -7,10 +7,8 @@ pub mod Paths
 pub mod Begins
 pub mod Faults
 pub mod Budgets
-pub mod Keys
 pub mod Readings
 pub mod States
 pub mod Passing
-pub mod Recalls
 pub mod Progress
 pub mod Building

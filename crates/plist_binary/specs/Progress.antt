@@ -13,15 +13,13 @@ use Rattle.plist_binary.specs.declared.walker.Walker.{Walker}
 use Rattle.plist_binary.specs.Begins.{AreNext, IsBegun}
 use Rattle.plist_binary.specs.Passing.{IsWithinLimits, Passes, PassesItems}
 use Rattle.plist_binary.specs.Paths.{containers_of}
-use Rattle.plist_binary.specs.Readings.{Refuses, RefusesItems, RefusesKeys}
-use Rattle.plist_binary.specs.Recalls.{IsKnownLast, ReadsApart}
+use Rattle.plist_binary.specs.Readings.{ReadsKeys, Refuses, RefusesItems, RefusesKeys}
 use Rattle.plist_binary.specs.States.{AreStates, AreStatesBut}
 
 -- what is known of objects and of keys is correct, if these containers lead to the current object,
 -- and at most the limits are left
 pub record IsProgress (f path : List ℕ) (progress : Progress) : Type 0 where
   pub states : AreStates f path progress.writable progress.states.items
-  pub last : IsKnownLast f progress.last
   pub ready : IsReady f progress.order
   pub within : IsWithinLimits progress.left
 
@@ -29,7 +27,6 @@ pub record IsProgress (f path : List ℕ) (progress : Progress) : Type 0 where
 pub record IsProgressBut (f path : List ℕ) (object : ℕ) (progress : Progress) : Type 0 where
   pub new : ¬ Contains path object
   pub states : AreStatesBut f path progress.writable object progress.states.items
-  pub last : IsKnownLast f progress.last
   pub ready : IsReady f progress.order
   pub within : IsWithinLimits progress.left
 
@@ -91,7 +88,7 @@ RefusesBelow f container refs progress =
 -- these keys of the dictionary were read and are distinct, or are refused
 pub record ReadsDistinct (f : List ℕ) (table : Node) (refs : List ℕ)
     (before after : Progress) : Type 0 where
-  pub read : ReadsApart f refs (table.levels - 1) before.left after.left
+  pub read : ReadsKeys f refs (table.levels - 1) before.left after.left
   pub so_far : IsProgressFrom f (inside table) before after
 
 abbrev pub RefusesDistinct : List ℕ → Node → List ℕ → Progress → BinaryFault → Type 0

@@ -63,6 +63,12 @@ pub record RefusesKey (f : List ℕ) (i levels : ℕ) (left : Budget)
   pub none : UnlessMemory fault ((units : List ℕ) → IsPlist (scalar (text units))
       → Spells f i (scalar (text units)) → 1 ≤ levels → Affords left 1 (2 * length units) → ⊥)
 
+-- the references point to strings, no two of which are equal
+pub record ReadsKeys (f refs : List ℕ) (levels : ℕ) (before after : Budget) : Type 0 where
+  pub keys : List (List ℕ)
+  pub reads : ReadsItems f refs levels before (texts keys) after
+  pub distinct : IsDistinct (eq_by_cmp (slice_cmp nat_cmp)) keys
+
 -- the fault is true, and the references do not point to distinct strings within the budget
 pub record RefusesKeys (f refs : List ℕ) (levels : ℕ) (left : Budget)
     (fault : BinaryFault) : Type 0 where
@@ -72,19 +78,22 @@ pub record RefusesKeys (f refs : List ℕ) (levels : ℕ) (left : Budget)
       → depth_of_items (texts keys) ≤ levels
       → Affords left (nodes_of_items (texts keys)) (payload_of_items (texts keys)) → ⊥)
 
--- the references to keys and to values give the pairs, which are in the order of the keys
-pub record ReadsPairs (f refs others : List ℕ) (levels : ℕ) (before : Budget) (ps : Pairs)
-    (after : Budget) : Type 0 where
+-- the rows, each a reference to a key and one to its value, give the pairs in some order
+pub record PairsSpelled (f : List ℕ) (all : List (ℕ × ℕ)) (ps : Pairs) : Type 0 where
   pub rows : List (ℕ × ℕ)
-  pub moved : IsPermutation (zip refs others) rows
+  pub moved : IsPermutation all rows
   pub spell : SpellPairs f rows ps
   pub valid : ArePairs ps
+
+-- the references to keys and to values give the pairs
+pub record ReadsPairs (f refs others : List ℕ) (levels : ℕ) (before : Budget) (ps : Pairs)
+    (after : Budget) : Type 0 where
+  pub spelled : PairsSpelled f (zip refs others) ps
   pub deep : depth_of_pairs ps ≤ levels
   pub spent : Spends before (nodes_of_pairs ps) (payload_of_pairs ps) after
 
 pub record RefusesPairs (f refs others : List ℕ) (levels : ℕ) (left : Budget)
     (fault : BinaryFault) : Type 0 where
   pub stands : Stands f fault
-  pub none : UnlessMemory fault ((rows : List (ℕ × ℕ)) (ps : Pairs)
-      → IsPermutation (zip refs others) rows → SpellPairs f rows ps → ArePairs ps
+  pub none : UnlessMemory fault ((ps : Pairs) → PairsSpelled f (zip refs others) ps
       → depth_of_pairs ps ≤ levels → Affords left (nodes_of_pairs ps) (payload_of_pairs ps) → ⊥)

@@ -1,20 +1,19 @@
 //! Building the value of a validated binary file. Only running out of memory can prevent it.
-ghost use Rattle.std.specs.Prelude.{◌≡◌, ◌<◌, ◌≤◌, length, map, IfOk};
+ghost use Rattle.std.specs.Prelude.{◌≡◌, ◌<◌, ◌≤◌, IfOk};
+ghost use Rattle.std.specs.List.{zip};
+ghost use Rattle.plist_value.specs.Plist.{scalar, text};
 ghost use Rattle.plist_value.specs.View.{view, view_items, view_pairs};
 ghost use Rattle.plist_value.specs.Texts.{units_of};
 ghost use Rattle.plist_object.specs.Objects.{IsContent};
-ghost use Rattle.plist_object.specs.Places.{Holds};
-ghost use Rattle.plist_object.specs.Views.{held_of, numbers_of, octets_of};
-ghost use Rattle.plist_binary.specs.Keys.{key_units, AreIndexed};
-ghost use Rattle.plist_binary.specs.Building.{SpellsText, AllSpellWithin};
+ghost use Rattle.plist_object.specs.Places.{Holds, HoldsText};
 ghost use Rattle.plist_object.specs.Spelled.{SpellsWithin};
-ghost use Rattle.plist_binary.specs.Building.{AllSpellTexts, SpellsPairsWithin, HoldsSome};
-ghost use Rattle.plist_binary.specs.Building.{IsSpelled, AreSpelled, AreTexts, PairsSpelled};
-ghost use Rattle.plist_binary.specs.Building.{SpellsUnits};
+ghost use Rattle.plist_object.specs.Views.{held_of, numbers_of, octets_of};
+ghost use Rattle.plist_binary.specs.Building.{AllSpellWithin, AreSpelled, HoldsSome, IsSpelled};
+ghost use Rattle.plist_binary.specs.Building.{SpellsPairsWithin};
+ghost use Rattle.plist_binary.specs.Readings.{PairsSpelled};
 
-use crate::dictionary::Key;
+use crate::copies;
 use crate::visiting::text_in;
-use crate::{copies, dictionary};
 use plist_object::{BinFile, Object, Refs};
 use plist_value::{TextRef, Utf16, Value};
 use std::alloc::{AllocError, Global};
@@ -67,34 +66,20 @@ impl<'a> Builder<'a> {
         requires { SpellsPairsWithin (octets_of self.now.file) (numbers_of keys) (numbers_of values)
             levels }
         ensures { IfOk result (λ pairs. PairsSpelled (octets_of self.now.file)
-            (numbers_of keys.entry) (numbers_of values.entry) (view_pairs pairs.entries)) }
+            (zip (numbers_of keys.entry) (numbers_of values.entry)) (view_pairs pairs.entries)) }
     {
-        let mut keys = self.keys(keys)?;
-        let distinct = dictionary::sort(keys.as_mut_slice());
-        prove!(distinct);
-        let values = self.items(values, levels)?;
-        dictionary::table(self.alloc, keys, values)
-    }
-
-    // Returns the strings that the references point to, each with its index.
-    fn keys(&self, refs: Refs) -> Result<Vec<Key<'a>>, AllocError>
-        requires { AllSpellTexts (octets_of self.now.file) (numbers_of refs) }
-        ensures texts { IfOk result (λ keys. AreTexts (octets_of self.now.file)
-            (numbers_of refs.entry) (map key_units keys.items)) }
-        ensures placed { IfOk result (λ keys. AreIndexed keys.items) }
-    {
-        let mut keys = Vec::with_capacity(self.alloc, refs.len() as usize)?;
-        for i in 0..refs.len() {
-            let text = self.text(refs.get(i));
-            let index = keys.len();
-            keys.push(Key { text, index })?;
+        let mut pairs = BTreeMap::new(self.alloc);
+        for i in 0..keys.len() {
+            let key = copies::utf16(self.alloc, self.text(keys.get(i)))?;
+            let value = self.value(values.get(i), levels)?;
+            drop(pairs.insert(key, value)?);
         }
-        Ok(keys)
+        Ok(pairs)
     }
 
     fn text(&self, object: u64) -> TextRef<'a>
-        requires { SpellsText (octets_of self.now.file) object }
-        ensures { SpellsUnits (octets_of self.now.file) object (units_of result) }
+        requires { HoldsText (octets_of self.now.file) object }
+        ensures { IsSpelled (octets_of self.now.file) object (scalar (text (units_of result))) }
     {
         text_in(self.held(object)).unwrap()
     }

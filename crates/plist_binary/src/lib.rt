@@ -3,10 +3,8 @@
 
 mod building;
 mod copies;
-mod dictionary;
 pub mod fault;
 mod judging;
-mod last_keys;
 mod progress;
 mod reader;
 mod states;

@@ -5,7 +5,6 @@ ghost use Rattle.plist_binary.specs.Passing.{Passes};
 ghost use Rattle.plist_binary.specs.Readings.{ReadsKey};
 ghost use Rattle.plist_binary.specs.Progress.{IsProgress};
 
-use crate::last_keys::LastKeys;
 use crate::states::{ObjectState, ValueSize, state_at};
 use plist_keys::KeyOrder;
 use plist_object::BinFile;
@@ -16,7 +15,6 @@ use std::alloc::Global;
 #[derive(Drop)]
 pub(crate) struct Progress<'a> {
     pub(crate) states: Vec<ObjectState>,
-    pub(crate) last: Option<LastKeys<'a>>,
     pub(crate) order: KeyOrder<'a>,
     pub(crate) left: Budget,
     // Whether all scalars so far are strings or data.
@@ -32,7 +30,6 @@ impl<'a> Progress<'a> {
     {
         Progress {
             states: Vec::new(alloc),
-            last: None,
             order: KeyOrder::new(alloc, file),
             left: Budget::whole(),
             writable: true,

@@ -15,7 +15,6 @@ ghost use Rattle.plist_binary.specs.Progress.{IsProgress, IsProgressBut, IsProgr
 ghost use Rattle.plist_binary.specs.Readings.{ReadsItems, Refuses, texts};
 
 use crate::BinaryFault;
-use crate::last_keys::{LastKeys, recall_keys};
 use crate::progress::Progress;
 use crate::states::{ObjectState, ValueSize, mark};
 use crate::visiting::take_payload;
@@ -142,8 +141,9 @@ impl<'a> Walker<'a> {
         Ok(deepest)
     }
 
-    // Reads the keys of the dictionary, and fails if two are equal. Keys that are those of the last
-    // dictionary are not read again.
+    // Reads the keys of the dictionary, and fails if two are equal. This is a function of its own so
+    // that frames of objects without keys reserve no space for it.
+    #[inline(never)]
     fn distinct_keys(
         &self,
         progress: &mut Progress<'a>,
@@ -157,38 +157,11 @@ impl<'a> Walker<'a> {
         ensures refused { IfErr result (RefusesDistinct (walked self.now) table.now
             (numbers_of refs.entry) progress.old) }
     {
-        let levels = table.levels - 1;
-        if let Some(rest) = recall_keys(&progress.last, &refs, levels, progress.left) {
-            progress.left = rest;
-            return Ok(());
-        }
-        self.sorted_keys(progress, table, refs)
-    }
-
-    // Reads and sorts keys that are not those of the last dictionary. This is a function of its own
-    // so that frames of objects without keys reserve no space for it.
-    #[inline(never)]
-    fn sorted_keys(
-        &self,
-        progress: &mut Progress<'a>,
-        table: &Node,
-        refs: Refs<'a>,
-    ) -> Result<(), BinaryFault>
-        requires due { AreDue (walked self.now) table.now (numbers_of refs) progress.old }
-        requires keys { HasKeys (walked self.now) table.now.object (numbers_of refs) }
-        ensures read { OnOk result (ReadsDistinct (walked self.now) table.now
-            (numbers_of refs.entry) progress.old progress.new) }
-        ensures refused { IfErr result (RefusesDistinct (walked self.now) table.now
-            (numbers_of refs.entry) progress.old) }
-    {
-        let whole = progress.left.payload;
         self.string_keys(&mut *progress, table, refs)?;
-        let payload = whole - progress.left.payload;
         if !progress.order.sort(self.alloc, &self.file, &refs)? {
             let object = table.object;
             return Err(BinaryFault::DuplicateKey { object });
         }
-        progress.last = Some(LastKeys { refs, payload });
         Ok(())
     }
 

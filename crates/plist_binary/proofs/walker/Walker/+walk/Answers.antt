@@ -1,4 +1,4 @@
-use Rattle.std.proofs.Common.{◌≡◌, ◌≤◌, ◌+◌, ◌-◌, ℕ, take, length, rules, refl, subst, sym, ◌∙◌, arith}
+use Rattle.std.proofs.Common.{◌≡◌, ◌+◌, ◌-◌, take, length, rules, subst, sym, ◌∙◌, arith}
 use Rattle.std.proofs.lemmas.Grind.{pieces}
 use Rattle.plist_value.specs.Plist.{IsScalar}
 use Rattle.plist_value.specs.View.{items_of}
@@ -10,14 +10,13 @@ use Rattle.plist_object.specs.Views.{numbers_of}
 use Rattle.plist_binary.specs.declared.fault.BinaryFault.TheVariants.{BadReference, TooMuchPayload}
 use Rattle.plist_binary.specs.declared.states.ObjectState.{ObjectState}
 use Rattle.plist_binary.specs.declared.states.ObjectState.TheVariants.{Passed}
-use Rattle.plist_binary.specs.Passing.{PassesItems}
 use Rattle.plist_binary.specs.Progress.{PassesBelow, RefusesBelow, RefusesNode, walked}
 use Rattle.plist_binary.specs.Readings.{texts}
 use Rattle.plist_binary.specs.States.{IsRecorded}
 use Rattle.plist_binary.proofs.Beginning.{AreDue-ends, AreNext-items, AreNext-keys, AreNext-values, Comes-refers, IsBegun-next}
 use Rattle.plist_binary.proofs.ItemSteps.{Contains-at, RefusesItems-next, RefusesItems-none}
 use Rattle.plist_binary.proofs.Making.{AreStates-but, AreStates-open, AreStates-visited, AreStates-weaker, IsProgress-last, IsWithinLimits-spent, Refuses-list, Refuses-payload, Refuses-table}
-use Rattle.plist_binary.proofs.PassSteps.{IsValueSize-passed, Passes-scalar, Passes-list, Passes-table, PassesItems-next, PassesPairs-sorted}
+use Rattle.plist_binary.proofs.PassSteps.{IsValueSize-passed, Passes-scalar, Passes-list, Passes-table, PassesItems-next, PassesPairs-read}
 use Rattle.plist_binary.proofs.TableSteps.{RefusesPairs-keys, RefusesPairs-values}
 use Rattle.plist_binary.proofs.walker.Walker.+walk.Goals as goal
 
@@ -42,7 +41,6 @@ content_depth-returns-in_ok-take_payload-in-Scalar-clause-progress t c =
     record {
       new = taken.new;
       states = rw c.are_writable-progress.ensures (AreStates-but c.args.node.now.object (AreStates-weaker (is_writable_scalar (content_of c.in-Scalar.scalar)) so_far.states));
-      last = so_far.last;
       ready = so_far.ready;
       within = IsWithinLimits-spent so_far.within c.in_ok-take_payload-in-Scalar.ensures.ok;
     }
@@ -57,7 +55,7 @@ content_depth-items_depth-requires t c =
       record {
         next = AreNext-items refs c.requires taken holds;
         depth = c.requires.depth;
-        so_far = record { states = AreStates-open c.args.node.now.object c.in_ok-mark-in-List.ensures so_far.states; last = so_far.last; ready = so_far.ready; within = so_far.within };
+        so_far = record { states = AreStates-open c.args.node.now.object c.in_ok-mark-in-List.ensures so_far.states; ready = so_far.ready; within = so_far.within };
       },
     )
 
@@ -88,7 +86,7 @@ content_depth-distinct_keys-requires-clause-due t c =
     record {
       next = AreNext-keys keys values c.requires taken holds;
       depth = c.requires.depth;
-      so_far = record { states = AreStates-open c.args.node.now.object c.in_ok-mark-in-Table.ensures so_far.states; last = so_far.last; ready = so_far.ready; within = so_far.within };
+      so_far = record { states = AreStates-open c.args.node.now.object c.in_ok-mark-in-Table.ensures so_far.states; ready = so_far.ready; within = so_far.within };
     }
 
 pub content_depth-returns-in_err-distinct_keys-in-Table-clause-refused : goal.content_depth-returns-in_err-distinct_keys-in-Table-clause-refused
@@ -132,7 +130,7 @@ content_depth-returns-in_ok-deep-in-Table-clause-passed t c =
     let long : length keys ≡ length values = rw c.in-Table.is at c.in_ok-scalar.ensures.valid in
     let both = c.in_ok-distinct_keys-in-Table.ensures.read in
     let read = both.read in
-    let pairs = PassesPairs-sorted _ keys values _ _ _ _ read.keys read.apart.sorted _ long read.reads c.in_ok-deep-in-Table.ensures.passed read.apart.moved read.apart.ascend in
+    let pairs = PassesPairs-read _ keys values _ _ _ _ read.keys _ long read.reads c.in_ok-deep-in-Table.ensures.passed read.distinct in
     Passes-table keys values holds c.in_ok-scalar.ensures.taken both.so_far.writable pairs
 
 pub content_depth-returns-in_ok-deep-in-Table-clause-progress : goal.content_depth-returns-in_ok-deep-in-Table-clause-progress
@@ -186,7 +184,6 @@ walk-returns-clause-progress t c =
     let mark = subst (λ (state : ObjectState). IsRecorded c.content_depth.new.progress.states.items object state c.mark.new.states.items) c.passed.ensures c.in_ok-mark.ensures in
     record {
       states = AreStates-visited object (Passed size.depth size.nodes size.payload) mark known so_far.new so_far.states;
-      last = so_far.last;
       ready = so_far.ready;
       within = so_far.within;
     }

@@ -1,4 +1,4 @@
-use Rattle.std.proofs.Common.{◌+◌, ◌-◌, ◌*◌, take}
+use Rattle.std.proofs.Common.{◌+◌, ◌*◌, take}
 use Rattle.plist_object.specs.Views.{numbers_of}
 use Rattle.plist_binary.specs.Progress.{IsProgress, PassesBelow, inside, walked}
 use Rattle.plist_binary.proofs.walker.Walker.+walk.Given as goal

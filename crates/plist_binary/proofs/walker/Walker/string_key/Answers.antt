@@ -1,8 +1,8 @@
-use Rattle.std.proofs.Common.{◌≡◌, ◌<◌, ◌*◌, arith, refl, rules, subst, length}
+use Rattle.std.proofs.Common.{◌<◌, ◌*◌, arith, refl, rules, subst, length}
 use Rattle.std.proofs.lemmas.Grind.{pieces}
 use Rattle.plist_value.specs.Plist.{text}
 use Rattle.plist_value.specs.Texts.{units_of}
-use Rattle.plist_object.specs.Objects.{Content, holds_scalar, IsContent}
+use Rattle.plist_object.specs.Objects.{IsContent}
 use Rattle.plist_object.specs.Places.{Holds}
 use Rattle.plist_binary.specs.declared.states.ObjectState.{ObjectState}
 use Rattle.plist_binary.specs.declared.states.ObjectState.TheVariants.{Key}
@@ -43,7 +43,7 @@ returns-in-Some-clause-progress c =
     let so_far = c.requires.due.so_far in
     let spent = (returns-in-Some-clause-read c).reads.spent in
     record {
-      is = record { states = so_far.states; last = so_far.last; ready = so_far.ready; within = IsWithinLimits-spent so_far.within spent };
+      is = record { states = so_far.states; ready = so_far.ready; within = IsWithinLimits-spent so_far.within spent };
       writable = refl;
     }
 
@@ -69,7 +69,6 @@ returns-clause-progress c =
     record {
       is = record {
         states = AreStates-visited object (Key size) marked known taken.new (AreStates-but object so_far.states);
-        last = so_far.last;
         ready = so_far.ready;
         within = IsWithinLimits-spent so_far.within c.in_ok-take_payload.ensures.ok;
       };

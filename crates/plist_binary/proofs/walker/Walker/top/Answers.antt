@@ -1,4 +1,4 @@
-use Rattle.std.proofs.Common.{◌≡◌, ℕ, Bool, true, refl, subst, sym, arith}
+use Rattle.std.proofs.Common.{ℕ, Bool, refl, subst, sym, arith}
 use Rattle.plist_value.specs.Budget.{Spends}
 use Rattle.plist_value.specs.declared.budget.Budget.{Budget}
 use Rattle.plist_value.specs.declared.TheConstants.{MAX_DEPTH}
