@@ -5,13 +5,14 @@ use Rattle.std.specs.List.{IsDistinct}
 use Rattle.std.proofs.lemmas.Bool.{and_parts}
 use Rattle.plist_value.specs.declared.budget.Budget.{Budget}
 use Rattle.plist_value.specs.Budget.{Spends}
-use Rattle.plist_value.specs.Plist.{Scalar, scalar, text, list, table, Items, IsScalar}
+use Rattle.plist_value.specs.Plist.{Scalar, Plist, scalar, text, list, table, Items, IsScalar}
 use Rattle.plist_value.specs.Limits.{payload_of_scalar}
 use Rattle.plist_value.specs.View.{items_of}
 use Rattle.plist_value.specs.Writable.{is_writable, is_writable_scalar, are_writable_items, are_writable_pairs}
 use Rattle.plist_object.specs.Layout.{trailer_of}
 use Rattle.plist_object.specs.Objects.{holds_scalar, holds_list, holds_table}
 use Rattle.plist_object.specs.Places.{Holds}
+use Rattle.plist_object.proofs.Uniqueness.{same_value}
 use Rattle.plist_keys.proofs.Ascents.{same_key}
 use Rattle.plist_binary.specs.declared.states.ValueSize.{ValueSize}
 use Rattle.plist_binary.specs.States.{IsKey, IsValueSize}
@@ -131,13 +132,9 @@ IsValueSize-key f all i size key = record {
   writable = λ _. refl;
 }
 
-pub ReadsKey-known : (f : List ℕ) (i levels size : ℕ) (before after : Budget) → IsKey f i size → 1 ≤ levels → Spends before 1 size after → ReadsKey f i levels before after
-ReadsKey-known f i levels size before after key deep spent = record {
+-- a key that is known
+pub ReadsKey-known : {f : List ℕ} {i levels size deep : ℕ} {before after : Budget} {first all : Bool} → IsKey f i size → Passes f i levels before deep after first all → ReadsKey f i levels before after
+ReadsKey-known {f} {i} {levels} {before = before} {after} key passed = record {
   units = key.units;
-  reads = record {
-    spells = key.spells;
-    valid = key.valid;
-    deep = deep;
-    spent = Spends-then spent (Spends-none after) (omega arith) (omega (arith, key.payload_is));
-  };
+  reads = subst (λ (v : Plist). Reads f i levels before v after) (same_value f i passed.value (scalar (text key.units)) passed.reads.valid key.valid passed.reads.spells key.spells) passed.reads;
 }

@@ -2,10 +2,9 @@
 ghost use Rattle.std.specs.Prelude.{◌≡◌, ℕ, true, List, [], IfSome};
 ghost use Rattle.plist_binary.specs.Budgets.{limits};
 ghost use Rattle.plist_binary.specs.Passing.{Passes};
-ghost use Rattle.plist_binary.specs.Readings.{ReadsKey};
 ghost use Rattle.plist_binary.specs.Progress.{IsProgress};
 
-use crate::states::{ObjectState, ValueSize, state_at};
+use crate::states::{ObjectState, state_at};
 use plist_keys::KeyOrder;
 use plist_object::BinFile;
 use plist_value::Budget;
@@ -49,21 +48,5 @@ impl<'a> Progress<'a> {
             return None;
         }
         Some((deep, size.take(self.left)?))
-    }
-
-    // Returns the budget left after an object that was a key before, or `None` if it was none or
-    // does not fit.
-    pub(crate) fn recall_key(&self, object: u64, levels: u64) -> Option<Budget>
-        ensures { IfSome result (λ rest. (f path : List ℕ) → IsProgress f path self.now
-            → ReadsKey f object levels self.now.left rest) }
-    {
-        let ObjectState::Key { payload } = state_at(&self.states, object) else {
-            return None;
-        };
-        if levels == 0 {
-            return None;
-        }
-        let rest = ValueSize::of_key(payload).take(self.left)?;
-        Some(rest)
     }
 }

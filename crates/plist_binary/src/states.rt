@@ -3,7 +3,7 @@ ghost use Rattle.std.specs.Prelude.{◌≡◌, ◌+◌, ◌<◌, ◌≤◌, ℕ,
 ghost use Rattle.plist_value.specs.declared.TheConstants.{MAX_NODES, MAX_DEPTH, MAX_PAYLOAD};
 ghost use Rattle.plist_value.specs.Budget.{Spends};
 ghost use Rattle.plist_binary.specs.States.{IsRecorded, IsValueSize, IsState, state_at_object};
-ghost use Rattle.plist_binary.specs.declared.states.ObjectState.TheVariants.{Key, Passed};
+ghost use Rattle.plist_binary.specs.declared.states.ObjectState.TheVariants.{Passed};
 
 use plist_value::Budget;
 use std::alloc::AllocError;
@@ -54,7 +54,11 @@ impl ObjectState {
                 nodes,
                 payload,
             }),
-            ObjectState::Key { payload } => Some(ValueSize::of_key(payload)),
+            ObjectState::Key { payload } => Some(ValueSize {
+                depth: 1,
+                nodes: 1,
+                payload,
+            }),
         }
     }
 }
@@ -78,17 +82,6 @@ impl ValueSize {
         }
     }
 
-    // Returns what a string of this payload takes.
-    pub(crate) fn of_key(payload: u32) -> ValueSize
-        ensures { result ≡ record { depth = 1; nodes = 1; payload = payload } }
-    {
-        ValueSize {
-            depth: 1,
-            nodes: 1,
-            payload,
-        }
-    }
-
     // Returns the state of a visited object whose value takes this much.
     pub(crate) fn passed(self) -> ObjectState
         ensures { result ≡ Passed self.depth self.nodes self.payload }
@@ -96,15 +89,6 @@ impl ValueSize {
         ObjectState::Passed {
             depth: self.depth,
             nodes: self.nodes,
-            payload: self.payload,
-        }
-    }
-
-    // Returns the state of a key whose string takes this much.
-    pub(crate) fn key(self) -> ObjectState
-        ensures { result ≡ Key self.payload }
-    {
-        ObjectState::Key {
             payload: self.payload,
         }
     }

@@ -40,18 +40,25 @@ impl<'a> Walker<'a> {
         ensures progress { OnOk result (IsProgressFrom (walked self.now) (above key.now)
             progress.old progress.new) }
     {
-        if let Some(rest) = progress.recall_key(key.object, key.levels) {
-            progress.left = rest;
-            return Ok(());
+        if let ObjectState::Key { .. } = state_at(&progress.states, key.object) {
+            if let Some((_, rest)) = progress.recall(key.object, key.levels) {
+                progress.left = rest;
+                return Ok(());
+            }
         }
         let start = progress.left;
         let Some(text) = text_in(self.enter(progress, key)?) else {
             return Err(BinaryFault::KeyNotText { object: table });
         };
         take_payload(&mut progress.left, key.object, ScalarRef::Text(text))?;
-        let size = ValueSize::of(start, progress.left, 1);
+        let payload = ValueSize::of(start, progress.left, 1).payload;
         let count = self.file.count();
-        mark(&mut progress.states, count, key.object, size.key())?;
+        mark(
+            &mut progress.states,
+            count,
+            key.object,
+            ObjectState::Key { payload },
+        )?;
         Ok(())
     }
 

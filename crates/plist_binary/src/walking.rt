@@ -41,9 +41,9 @@ impl<'a> Walker<'a> {
         Ok(progress)
     }
 
-    // Validates the node and returns the depth of its value.
+    // Validates the node and returns the depth of its value. An object that was visited before is
+    // not visited again; of another one the depth and the budget it takes are recorded.
     #[cycle(walk)]
-    #[inline(always)]
     fn validate(&self, progress: &mut Progress<'a>, node: &Node) -> Result<u64, BinaryFault>
         requires { IsDue (walked self.now) node.now progress.old }
         ensures passed { IfOk result (PassesNode (walked self.now) node.now progress.old
@@ -56,19 +56,6 @@ impl<'a> Walker<'a> {
             progress.left = rest;
             return Ok(deep);
         }
-        self.walk(progress, node)
-    }
-
-    // Validates a node that the memo does not have, and records its depth and the budget it takes.
-    #[cycle(walk)]
-    fn walk(&self, progress: &mut Progress<'a>, node: &Node) -> Result<u64, BinaryFault>
-        requires { IsDue (walked self.now) node.now progress.old }
-        ensures passed { IfOk result (PassesNode (walked self.now) node.now progress.old
-            progress.new) }
-        ensures refused { IfErr result (RefusesNode (walked self.now) node.now progress.old) }
-        ensures progress { OnOk result (IsProgress (walked self.now) (above node.now)
-            progress.new) }
-    {
         let before = progress.left;
         let deep = self.content_depth(progress, node)?;
         let size = ValueSize::of(before, progress.left, deep);

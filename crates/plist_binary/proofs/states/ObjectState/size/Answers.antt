@@ -1,8 +1,8 @@
-use Rattle.std.proofs.Common.{sym, subst}
-use Rattle.plist_binary.specs.States.{IsValueSize, IsState}
+use Rattle.std.proofs.Common.{subst}
+use Rattle.plist_binary.specs.States.{IsState}
 use Rattle.plist_binary.proofs.PassSteps.{IsValueSize-key}
 use Rattle.plist_binary.proofs.states.ObjectState.size.Goals as goal
 
 pub returns-in-Key : goal.returns-in-Key
 returns-in-Key c f path all i is =
-    subst (IsValueSize f all i) (sym c.of_key.ensures) (IsValueSize-key f all i c.in-Key.payload (subst (IsState f path all i) c.in-Key.is is))
+    IsValueSize-key f all i c.in-Key.payload (subst (IsState f path all i) c.in-Key.is is)

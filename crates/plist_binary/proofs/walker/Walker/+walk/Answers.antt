@@ -175,8 +175,8 @@ items_depth-loop-i-preserved t c =
       progress = c.in_ok-deep.ensures.progress;
     }
 
-pub walk-returns-clause-progress : goal.walk-returns-clause-progress
-walk-returns-clause-progress t c =
+pub validate-returns-clause-progress : goal.validate-returns-clause-progress
+validate-returns-clause-progress t c =
     let object = c.args.node.now.object in
     let size = c.of-size.result in
     let known = IsValueSize-passed size c.in_ok-deep.ensures.passed c.of-size.ensures.nodes c.of-size.ensures.payload c.of-size.ensures.depth in
@@ -188,20 +188,17 @@ walk-returns-clause-progress t c =
       within = so_far.within;
     }
 
-pub walk-of-size-requires-clause-nodes_left : goal.walk-of-size-requires-clause-nodes_left
-walk-of-size-requires-clause-nodes_left t c = omega (arith, c.in_ok-deep.ensures.passed.reads.spent.nodes_left)
+pub validate-of-size-requires-clause-nodes_left : goal.validate-of-size-requires-clause-nodes_left
+validate-of-size-requires-clause-nodes_left t c = omega (arith, c.in_ok-deep.ensures.passed.reads.spent.nodes_left)
 
-pub walk-of-size-requires-clause-payload_left : goal.walk-of-size-requires-clause-payload_left
-walk-of-size-requires-clause-payload_left t c = omega (arith, c.in_ok-deep.ensures.passed.reads.spent.payload_left)
+pub validate-of-size-requires-clause-payload_left : goal.validate-of-size-requires-clause-payload_left
+validate-of-size-requires-clause-payload_left t c = omega (arith, c.in_ok-deep.ensures.passed.reads.spent.payload_left)
 
-pub walk-returns-clause-passed : goal.walk-returns-clause-passed
-walk-returns-clause-passed t c = c.in_ok-deep.ensures.passed
+pub validate-returns-clause-passed : goal.validate-returns-clause-passed
+validate-returns-clause-passed t c = c.in_ok-deep.ensures.passed
 
-pub walk-returns-in_err-mark-clause-refused : goal.walk-returns-in_err-mark-clause-refused
-walk-returns-in_err-mark-clause-refused t c = search (pieces, arith)
+pub validate-returns-in_err-mark-clause-refused : goal.validate-returns-in_err-mark-clause-refused
+validate-returns-in_err-mark-clause-refused t c = search (pieces, arith)
 
-pub walk-content_depth-requires : goal.walk-content_depth-requires
-walk-content_depth-requires t c = (search rules, c.requires)
-
-pub validate-walk-requires : goal.validate-walk-requires
-validate-walk-requires t c = (search rules, c.requires)
+pub validate-content_depth-requires : goal.validate-content_depth-requires
+validate-content_depth-requires t c = (search rules, c.requires)

@@ -5,16 +5,13 @@ use Rattle.plist_binary.proofs.walker.Walker.+walk.Given as goal
 
 -- by the levels, with callers before what they call
 abbrev pub decreases-items_depth : goal.decreases-items_depth
-decreases-items_depth l = 4 * l.container.now.levels
+decreases-items_depth l = 3 * l.container.now.levels
 
 abbrev pub decreases-content_depth : goal.decreases-content_depth
-decreases-content_depth l = 4 * l.node.now.levels + 1
-
-abbrev pub decreases-walk : goal.decreases-walk
-decreases-walk l = 4 * l.node.now.levels + 2
+decreases-content_depth l = 3 * l.node.now.levels + 1
 
 abbrev pub decreases-validate : goal.decreases-validate
-decreases-validate l = 4 * l.node.now.levels + 3
+decreases-validate l = 3 * l.node.now.levels + 2
 
 abbrev pub invariant-items_depth-loop-i : goal.invariant-items_depth-loop-i
 invariant-items_depth-loop-i l =

@@ -1,18 +1,17 @@
-use Rattle.std.proofs.Common.{◌<◌, ◌*◌, arith, refl, rules, subst, length}
+use Rattle.std.proofs.Common.{sym, ◌∙◌, ◌<◌, ◌*◌, arith, refl, rules, subst, length}
 use Rattle.std.proofs.lemmas.Grind.{pieces}
 use Rattle.plist_value.specs.Plist.{text}
 use Rattle.plist_value.specs.Texts.{units_of}
 use Rattle.plist_object.specs.Objects.{IsContent}
 use Rattle.plist_object.specs.Places.{Holds}
-use Rattle.plist_binary.specs.declared.states.ObjectState.{ObjectState}
 use Rattle.plist_binary.specs.declared.states.ObjectState.TheVariants.{Key}
 use Rattle.plist_binary.specs.declared.fault.BinaryFault.TheVariants.{TooMuchPayload}
-use Rattle.plist_binary.specs.Progress.{walked}
+use Rattle.plist_binary.specs.Progress.{above, walked}
 use Rattle.plist_binary.specs.Readings.{RefusesKey}
-use Rattle.plist_binary.specs.States.{IsRecorded}
+use Rattle.plist_binary.specs.States.{IsState}
 use Rattle.plist_binary.proofs.ItemSteps.{RefusesKey-value, RefusesKey-other}
 use Rattle.plist_binary.proofs.Making.{IsWithinLimits-spent, AreStates-but, AreStates-visited, Reads-scalar, Refuses-payload}
-use Rattle.plist_binary.proofs.PassSteps.{IsKey-read}
+use Rattle.plist_binary.proofs.PassSteps.{IsKey-read, ReadsKey-known}
 use Rattle.plist_binary.proofs.walker.Walker.string_key.Goals as goal
 
 pub returns-in_err-enter-clause-refused : goal.returns-in_err-enter-clause-refused
@@ -36,7 +35,11 @@ returns-in_err-take_payload-clause-refused c =
     search rules
 
 pub returns-in-Some-clause-read : goal.returns-in-Some-clause-read
-returns-in-Some-clause-read c = c.in-Some.ensures _ _ c.requires.due.so_far
+returns-in-Some-clause-read c =
+    let f = walked c.args.self.now in
+    let so_far = c.requires.due.so_far in
+    let known = subst (IsState f (above c.args.key.now) c.args.progress.now.writable c.args.key.now.object) (sym c.state_at.ensures ∙ c.in-Key.is) (so_far.states.each c.args.key.now.object) in
+    ReadsKey-known known (c.in-Some.ensures f (above c.args.key.now) so_far)
 
 pub returns-in-Some-clause-progress : goal.returns-in-Some-clause-progress
 returns-in-Some-clause-progress c =
@@ -61,14 +64,12 @@ returns-clause-progress c =
     let object = c.args.key.now.object in
     let taken = c.in_ok-enter.ensures.taken in
     let so_far = taken.so_far.is in
-    let states = c.enter.new.progress.states.items in
     let read = returns-clause-read c in
-    let size = c.of-size.result.payload in
-    let known = IsKey-read (walked c.args.self.now) object c.args.key.now.levels c.args.progress.now.left c.take_payload.new.left read.units size read.reads c.of-size.ensures.payload in
-    let marked = subst (λ (state : ObjectState). IsRecorded states object state c.mark.new.states.items) c.key.ensures c.in_ok-mark.ensures in
+    let size = c.of-payload.result.payload in
+    let known = IsKey-read (walked c.args.self.now) object c.args.key.now.levels c.args.progress.now.left c.take_payload.new.left read.units size read.reads c.of-payload.ensures.payload in
     record {
       is = record {
-        states = AreStates-visited object (Key size) marked known taken.new (AreStates-but object so_far.states);
+        states = AreStates-visited object (Key size) c.in_ok-mark.ensures known taken.new (AreStates-but object so_far.states);
         ready = so_far.ready;
         within = IsWithinLimits-spent so_far.within c.in_ok-take_payload.ensures.ok;
       };
