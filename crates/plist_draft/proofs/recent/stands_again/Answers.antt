@@ -1,4 +1,4 @@
-use Rattle.std.proofs.Common.{◌≡◌, ◌∙◌, ◌<◌, length, drop, true, refl, sym, arith}
+use Rattle.std.proofs.Common.{◌∙◌, ◌<◌, length, drop, true, refl, sym, arith}
 use Rattle.std.proofs.lemmas.Bool.{OnTrue_from}
 use Rattle.std.proofs.lemmas.Bool.Decides.{Decides-eqb, nat_tests}
 use Rattle.std.proofs.lemmas.Option.{slice_get_read}
