@@ -26,36 +26,16 @@ pub fn put_value(alloc: Global, draft: &mut Draft, value: &Value) -> Result<u32,
     ensures kept { Keeps (objects draft.old) (objects draft.new) }
 {
     match value {
-        Value::List(items) => put_list(alloc, draft, items),
-        Value::Table(pairs) => put_table(alloc, draft, pairs),
+        Value::List(items) => {
+            let items = put_items(alloc, draft, items)?;
+            draft.put_list(&items)
+        }
+        Value::Table(pairs) => {
+            let (keys, values) = put_pairs(alloc, draft, pairs)?;
+            draft.put_table(&keys, &values)
+        }
         _ => draft.put_scalar(&ScalarRef::of(value).unwrap()),
     }
-}
-
-#[cycle(values)]
-fn put_list(alloc: Global, draft: &mut Draft, items: &Vec<Value>) -> Result<u32, AllocError>
-    ensures spells { IfOk result
-        (λ number. SpellsIn (objects draft.new) number (list (view_items items.now.items))) }
-    ensures valid { OnOk result (AreItems (view_items items.now.items)) }
-    ensures kept { Keeps (objects draft.old) (objects draft.new) }
-{
-    let items = put_items(alloc, draft, items)?;
-    draft.put_list(&items)
-}
-
-#[cycle(values)]
-fn put_table(
-    alloc: Global,
-    draft: &mut Draft,
-    pairs: &BTreeMap<Utf16, Value>,
-) -> Result<u32, AllocError>
-    ensures spells { IfOk result
-        (λ number. SpellsIn (objects draft.new) number (table (view_pairs pairs.now.entries))) }
-    ensures valid { OnOk result (ArePairs (view_pairs pairs.now.entries)) }
-    ensures kept { Keeps (objects draft.old) (objects draft.new) }
-{
-    let (keys, values) = put_pairs(alloc, draft, pairs)?;
-    draft.put_table(&keys, &values)
 }
 
 // Appends the items and returns their numbers.

@@ -1,13 +1,14 @@
-use Rattle.std.proofs.Common.{rules, ◌≡◌, ℕ, ◌+◌, ◌<◌, ◌≤◌, ap, sym, subst, ◌∙◌, List, ◌∷◌, length, get_or, drop}
+use Rattle.std.proofs.Common.{rules, IfOk, ◌≡◌, ℕ, ◌+◌, ◌<◌, ◌≤◌, ap, sym, subst, ◌∙◌, List, ◌∷◌, length, get_or, drop}
 use Rattle.std.specs.Ordering.{nat_cmp}
 use Rattle.std.specs.Cmp.Lexicographic.{slice_cmp}
 use Rattle.std.specs.List.Sorted.{IsStrictlySortedBy}
 use Rattle.std.specs.Map.{keys_of}
 use Rattle.std.proofs.lemmas.List.{drop_more, drop_all}
 use Rattle.std.proofs.lemmas.Result.{IfOk-from_err}
-use Rattle.plist_value.specs.Plist.{text, scalar, Items, no_items, item, AreItems, AreUnits, ArePairs}
+use Rattle.plist_value.specs.Plist.{text, Plist, scalar, table, Items, no_items, item, AreItems, AreUnits, ArePairs}
 use Rattle.plist_value.specs.View.{view, view_items, view_pairs}
 use Rattle.plist_value.specs.declared.value.Value.{Value}
+use Rattle.plist_value.proofs.Shown.{view-table}
 use Rattle.plist_value.proofs.Keys.{IsKeyBelow-ordered}
 use Rattle.plist_draft.specs.Encoded.{SpellsIn}
 use Rattle.plist_draft.specs.View.{objects}
@@ -62,11 +63,6 @@ pub put_pairs-returns-clause-spells : goal.put_pairs-returns-clause-spells
 put_pairs-returns-clause-spells t c =
     pairs-end _ _ _ _ _ (ap view_pairs c.in-None.ensures.steps.0) c.loop-key.invariant.left
 
-pub put_table-returns-clause-spells : goal.put_table-returns-clause-spells
-put_table-returns-clause-spells t c =
-    let encoded = rw (sym c.deref.ensures.value, sym c.deref-2.ensures.value) at c.in_ok-keys.ensures.spells in
-    table-put _ _ _ _ _ c.put_table.result encoded c.put_table.ensures.spells
-
 pub put_items-returns-in_err-push-clause-spells : goal.put_items-returns-in_err-push-clause-spells
 put_items-returns-in_err-push-clause-spells t c = IfOk-from_err _ _ c.from_residual-in_err-push.ensures.0
 
@@ -88,3 +84,9 @@ put_items-returns-in_err-put_value-clause-kept t c = Keeps-both _ _ _ c.loop-ite
 pub put_items-returns-clause-valid : goal.put_items-returns-clause-valid
 put_items-returns-clause-valid t c =
     c.loop-item.invariant.valid (rw (none-left c.args.items.now.items c.loop-item.item-index (search rules)) tt)
+
+pub put_value-returns-in_ok-keys-in-Table-clause-spells : goal.put_value-returns-in_ok-keys-in-Table-clause-spells
+put_value-returns-in_ok-keys-in-Table-clause-spells t c =
+    let encoded = rw (sym c.deref-in-Table.ensures.value, sym c.deref-in-Table-2.ensures.value) at c.in_ok-keys-in-Table.ensures.spells in
+    let shown : view c.args.value.now ≡ table (view_pairs c.in-Table.pairs.entries) = ap view c.in-Table.is ∙ view-table c.in-Table.pairs in
+    subst (λ (v : Plist). IfOk c.put_table.result (λ number. SpellsIn (objects c.put_table.new.self) number v)) (sym shown) (table-put _ _ _ _ _ c.put_table.result encoded c.put_table.ensures.spells)
