@@ -11,7 +11,7 @@ use Rattle.plist_value.specs.declared.value.Value.{Value}
 use Rattle.plist_value.specs.Plist.{text, Plist, scalar, list, table, Items, no_items, item, Pairs, IsPlist, AreItems}
 use Rattle.plist_value.specs.Limits.{depth, depth_of_items}
 use Rattle.plist_value.specs.View.{view, view_pairs, items_of}
-use Rattle.plist_value.proofs.Items.{push, AreItems-push, some_depth}
+use Rattle.plist_value.proofs.Items.{push, AreItems-push}
 use Rattle.plist_value.proofs.Pairs.{Entry, view_pairs-insert_entry}
 use Rattle.plist_object.specs.Layout.{trailer_of}
 use Rattle.plist_object.specs.Objects.{holds_scalar, holds_list, holds_table}
@@ -21,9 +21,8 @@ use Rattle.plist_object.proofs.Ascending.{Among, Among-contains}
 use Rattle.plist_object.proofs.Uniqueness.{same_held, same_value}
 use Rattle.plist_binary.specs.Building.{AllSpellWithin, SpellsPairsWithin, HoldsSome, AreSpelled, IsSpelled}
 use Rattle.plist_binary.specs.Readings.{PairsSpelled}
-use Rattle.plist_binary.proofs.Inserting.{PairsSpelled-put, rows_apart}
+use Rattle.plist_binary.proofs.Inserting.{IsRow, PairsSpelled-put, rows_apart, rows_distinct}
 use Rattle.plist_binary.proofs.ItemSteps.{Contains-at, Spells-held, next, SpellItems-push}
-use Rattle.plist_binary.proofs.Rows.{IsRow}
 use Rattle.plist_binary.proofs.Sorting.{NameTexts-read}
 use Rattle.plist_binary.proofs.TableSteps.{unsort}
 
@@ -106,15 +105,14 @@ PairsSpelled-next f keys values levels k i j units v es new below key_is value_i
     let many = within.long in
     let inside : k < length all = omega (arith, length-zip keys values) in
     let at : row ≡ (i, j) = get_or-zip keys values k (0, 0) below (omega arith) ∙ rw (sym key_is, sym value_is) refl in
-    let one : IsRow f (depth (view v)) (row, (units, view v)) = rw at record {
+    let one : IsRow f (depth (view v)) row units (view v) = rw at record {
       key = key.spells;
       value = value.spells;
       units = key.valid;
       valid = value.valid;
       deep = omega arith;
-      some = some_depth (view v);
     } in
-    let more = (PairsSpelled-put f (depth (view v)) row (take k all) units (view v) (view_pairs es) one (rows_apart f all within.pairs k (0, 0) inside within.spelled) spelled).spelled in
+    let more = (PairsSpelled-put f (depth (view v)) row (take k all) units (view v) (view_pairs es) one (rows_apart f all k (0, 0) inside (rows_distinct f all within.pairs within.spelled)) spelled).spelled in
     let pushed : take (k + 1) all ≡ take k all ++ row ∷ [] = take_more all k (0, 0) inside in
     rw (put, view_pairs-insert_entry es units v) record {
       rows = more.rows;

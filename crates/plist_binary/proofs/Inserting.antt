@@ -9,7 +9,7 @@ use Rattle.std.proofs.lemmas.List.{get_or-take, get_or_default, length-take}
 use Rattle.std.proofs.lemmas.List.Elements.{All-from_recursion, recursion_from_All}
 use Rattle.std.proofs.lemmas.List.Sorted.{IsPermutation-refl, IsPermutation-sym, IsPermutation-cons, IsPermutation-swap, IsPermutation-trans, All-permutation}
 use Rattle.std.proofs.lemmas.Map.Keys.{IsDistinct-IsPermutation, IsDistinct-from_sorted, apart_from_distinct}
-use Rattle.plist_value.specs.Plist.{text, Plist, Pairs, no_pairs, pair, AreItems, ArePairs, IsKeyBelow}
+use Rattle.plist_value.specs.Plist.{text, Plist, Pairs, no_pairs, pair, AreUnits, IsPlist, AreItems, ArePairs, IsKeyBelow}
 use Rattle.plist_value.specs.Limits.{nodes, depth, payload, nodes_of_items, depth_of_items, payload_of_items, nodes_of_pairs, depth_of_pairs, payload_of_pairs}
 use Rattle.plist_value.specs.View.{items_of}
 use Rattle.plist_value.specs.Writable.{is_writable, are_writable_items, are_writable_pairs}
@@ -17,11 +17,18 @@ use Rattle.plist_value.proofs.Items.{some_depth}
 use Rattle.plist_value.proofs.Pairs.{put_pair}
 use Rattle.plist_object.specs.Objects.{holds_scalar}
 use Rattle.plist_object.specs.Places.{Holds}
-use Rattle.plist_object.specs.Spelled.{SpellItems, SpellPairs}
-use Rattle.plist_object.proofs.Uniqueness.{by_key, by_key_total, key_of-held, rows_ascend}
+use Rattle.plist_object.specs.Spelled.{Spells, SpellItems, SpellPairs}
+use Rattle.plist_object.proofs.Uniqueness.{by_key, by_key_total, key_of-held, rows_ascend, same_pairs, same_rows}
 use Rattle.plist_keys.proofs.Ascents.{same_key}
 use Rattle.plist_binary.specs.Readings.{PairsSpelled, texts}
-use Rattle.plist_binary.proofs.Rows.{IsRow}
+
+-- the row points to this key and to this value, which is at most `levels` deep
+pub record IsRow (f : List ℕ) (levels : ℕ) (row : ℕ × ℕ) (u : List ℕ) (v : Plist) : Type 0 where
+  pub key : Holds f row.0 (holds_scalar (text u))
+  pub value : Spells f row.1 v
+  pub units : AreUnits u
+  pub valid : IsPlist v
+  pub deep : depth v ≤ levels
 
 -- whether the keys of two rows are equal
 abbrev pub same_row : List ℕ → (ℕ × ℕ) → (ℕ × ℕ) → Bool
@@ -31,7 +38,7 @@ same_row f = eq_by_cmp (by_key f)
 abbrev pub AreApart : List ℕ → (ℕ × ℕ) → List (ℕ × ℕ) → Type 0
 AreApart f row rows = All (λ r. same_row f row r ≡ false) rows
 
-by_key-held : (f : List ℕ) (r s : ℕ × ℕ) (u w : List ℕ) → Holds f r.0 (holds_scalar (text u)) → Holds f s.0 (holds_scalar (text w)) → by_key f r s ≡ slice_cmp nat_cmp u w
+pub by_key-held : (f : List ℕ) (r s : ℕ × ℕ) (u w : List ℕ) → Holds f r.0 (holds_scalar (text u)) → Holds f s.0 (holds_scalar (text w)) → by_key f r s ≡ slice_cmp nat_cmp u w
 unfolding by_key
 by_key-held f r s u w first second = rw (key_of-held f r u first, key_of-held f s w second) refl
 
@@ -59,7 +66,7 @@ pub record Put (f : List ℕ) (all : List (ℕ × ℕ)) (key : List ℕ) (v : Pl
   pub writable : are_writable_pairs qs ≡ (is_writable v && are_writable_pairs ps)
 
 -- a pair whose key is below all others
-put_first : {f : List ℕ} {levels : ℕ} {row : ℕ × ℕ} {rows : List (ℕ × ℕ)} {key : List ℕ} {v : Plist} {ps : Pairs} → IsRow f levels (row, (key, v)) → IsKeyBelow key ps → SpellPairs f rows ps → ArePairs ps → Put f (row ∷ rows) key v ps (pair key v ps)
+put_first : {f : List ℕ} {levels : ℕ} {row : ℕ × ℕ} {rows : List (ℕ × ℕ)} {key : List ℕ} {v : Plist} {ps : Pairs} → IsRow f levels row key v → IsKeyBelow key ps → SpellPairs f rows ps → ArePairs ps → Put f (row ∷ rows) key v ps (pair key v ps)
 put_first {row = row} {rows} {v = v} one below spell valid = record {
   spelled = record {
     rows = row ∷ rows;
@@ -73,7 +80,7 @@ put_first {row = row} {rows} {v = v} one below spell valid = record {
   writable = refl;
 }
 
-put_rows : (f : List ℕ) (levels : ℕ) (row : ℕ × ℕ) (rows : List (ℕ × ℕ)) (key : List ℕ) (v : Plist) (ps : Pairs) → IsRow f levels (row, (key, v)) → AllByRecursion (λ r. same_row f row r ≡ false) rows → SpellPairs f rows ps → ArePairs ps → Put f (row ∷ rows) key v ps (put_pair key v ps)
+put_rows : (f : List ℕ) (levels : ℕ) (row : ℕ × ℕ) (rows : List (ℕ × ℕ)) (key : List ℕ) (v : Plist) (ps : Pairs) → IsRow f levels row key v → AllByRecursion (λ r. same_row f row r ≡ false) rows → SpellPairs f rows ps → ArePairs ps → Put f (row ∷ rows) key v ps (put_pair key v ps)
 put_rows f levels row rows key v no_pairs one apart spell valid = put_first one tt spell valid
 put_rows f levels row [] key v (pair next w ps) one apart spell valid = absurd spell
 put_rows f levels row (r ∷ rows) key v (pair next w ps) one apart spell valid =
@@ -100,7 +107,7 @@ put_rows f levels row (r ∷ rows) key v (pair next w ps) one apart spell valid 
     ] refl
 
 -- one more row
-pub PairsSpelled-put : (f : List ℕ) (levels : ℕ) (row : ℕ × ℕ) (all : List (ℕ × ℕ)) (key : List ℕ) (v : Plist) (ps : Pairs) → IsRow f levels (row, (key, v)) → AreApart f row all → PairsSpelled f all ps → Put f (row ∷ all) key v ps (put_pair key v ps)
+pub PairsSpelled-put : (f : List ℕ) (levels : ℕ) (row : ℕ × ℕ) (all : List (ℕ × ℕ)) (key : List ℕ) (v : Plist) (ps : Pairs) → IsRow f levels row key v → AreApart f row all → PairsSpelled f all ps → Put f (row ∷ all) key v ps (put_pair key v ps)
 PairsSpelled-put f levels row all key v ps one apart spelled =
     let rows = spelled.rows in
     let put = put_rows f levels row rows key v ps one (recursion_from_All (λ r. same_row f row r ≡ false) rows (All-permutation (λ r. same_row f row r ≡ false) all rows spelled.moved apart)) spelled.spell spelled.valid in
@@ -117,14 +124,22 @@ PairsSpelled-put f levels row all key v ps one apart spelled =
       writable = put.writable;
     }
 
--- the rows of a dictionary are apart
-pub rows_apart : (f : List ℕ) (all : List (ℕ × ℕ)) (ps : Pairs) (k : ℕ) (d : ℕ × ℕ) → k < length all → PairsSpelled f all ps → AreApart f (get_or all k d) (take k all)
-rows_apart f all ps k d within spelled i e below =
-    let flips = (eq_by_cmp_equiv (by_key_total f)).symm in
-    let distinct = IsDistinct-IsPermutation (same_row f) flips spelled.rows all (IsPermutation-sym all spelled.rows spelled.moved) (IsDistinct-from_sorted (by_key f) spelled.rows (rows_ascend f spelled.rows ps spelled.spell spelled.valid)) in
+-- no two rows of a dictionary have equal keys
+pub rows_distinct : (f : List ℕ) (all : List (ℕ × ℕ)) (ps : Pairs) → PairsSpelled f all ps → IsDistinct (same_row f) all
+rows_distinct f all ps spelled =
+    IsDistinct-IsPermutation (same_row f) (eq_by_cmp_equiv (by_key_total f)).symm spelled.rows all (IsPermutation-sym all spelled.rows spelled.moved) (IsDistinct-from_sorted (by_key f) spelled.rows (rows_ascend f spelled.rows ps spelled.spell spelled.valid))
+
+pub rows_apart : (f : List ℕ) (all : List (ℕ × ℕ)) (k : ℕ) (d : ℕ × ℕ) → k < length all → IsDistinct (same_row f) all → AreApart f (get_or all k d) (take k all)
+rows_apart f all k d within distinct i e below =
     let before : i < k = omega (arith, length-take k all) in
     let differ = apart_from_distinct (same_row f) all i k e distinct before within in
-    rw (get_or-take k all i e before, get_or_default all k d e within) (flips (get_or all k e) (get_or all i e) ∙ differ)
+    rw (get_or-take k all i e before, get_or_default all k d e within) ((eq_by_cmp_equiv (by_key_total f)).symm (get_or all k e) (get_or all i e) ∙ differ)
+
+-- rows give the pairs of one dictionary
+pub same_spelled : (f : List ℕ) (all : List (ℕ × ℕ)) (ps qs : Pairs) → PairsSpelled f all ps → PairsSpelled f all qs → ps ≡ qs
+same_spelled f all ps qs first second =
+    let rows = same_rows f all first.rows second.rows ps qs first.moved second.moved first.spell second.spell first.valid second.valid in
+    same_pairs f first.rows ps qs first.valid second.valid first.spell (subst (λ (l : List (ℕ × ℕ)). SpellPairs f l qs) (sym rows) second.spell)
 
 -- rows of other keys than the first
 keys_apart : (f : List ℕ) (row : ℕ × ℕ) (u : List ℕ) (keys values : List ℕ) (us : List (List ℕ)) → Holds f row.0 (holds_scalar (text u)) → SpellItems f keys (texts us) → AllByRecursion (λ w. same_key u w ≡ false) us → AllByRecursion (λ r. same_row f row r ≡ false) (zip keys values)
@@ -156,13 +171,12 @@ gather f [] [] [] [] long many all spell_keys spell_values valid_keys valid_valu
 }
 gather f (k ∷ keys) (i ∷ values) (u ∷ us) (v ∷ vs) long many all spell_keys spell_values valid_keys valid_values distinct =
     let rest = gather f keys values us vs (omega arith) (omega arith) (omega arith) spell_keys.1 spell_values.1 valid_keys.1 valid_values.1 distinct.1 in
-    let one : IsRow f (depth v) ((k, i), (u, v)) = record {
+    let one : IsRow f (depth v) (k, i) u v = record {
       key = spell_keys.0;
       value = spell_values.0;
       units = valid_keys.0;
       valid = valid_values.0;
       deep = omega arith;
-      some = some_depth v;
     } in
     let apart = All-from_recursion (λ r. same_row f (k, i) r ≡ false) (zip keys values) (keys_apart f (k, i) u keys values us spell_keys.0 spell_keys.1 distinct.0) in
     let put = PairsSpelled-put f (depth v) (k, i) (zip keys values) u v rest.pairs one apart rest.spelled in

@@ -3,7 +3,6 @@ pub mod Entering
 pub mod Inserting
 pub mod ItemSteps
 pub mod Making
-pub mod Rows
 pub mod TableSteps
 mod Worked
 pub mod PassSteps
