@@ -3,7 +3,6 @@ use Rattle.std.proofs.Common.{◌≡◌, ℕ, ◌+◌, ◌-◌, ◌<◌, ◌≤�
 use Rattle.std.specs.BTreeMap.{insert_entry}
 use Rattle.std.specs.Cmp.Lexicographic.{slice_cmp}
 use Rattle.std.specs.List.{zip}
-use Rattle.std.specs.List.Sorted.{IsPermutation}
 use Rattle.std.proofs.lemmas.List.{take_more}
 use Rattle.std.proofs.lemmas.List.Sorted.{IsPermutation-to_front, IsPermutation-trans}
 use Rattle.std.proofs.lemmas.Slice.Zip.{get_or-zip, length-zip}
@@ -21,7 +20,7 @@ use Rattle.plist_object.proofs.Ascending.{Among, Among-contains}
 use Rattle.plist_object.proofs.Uniqueness.{same_held, same_value}
 use Rattle.plist_binary.specs.Building.{AllSpellWithin, SpellsPairsWithin, HoldsSome, AreSpelled, IsSpelled}
 use Rattle.plist_binary.specs.Readings.{PairsSpelled}
-use Rattle.plist_binary.proofs.Inserting.{IsRow, PairsSpelled-put, rows_apart, rows_distinct}
+use Rattle.plist_binary.proofs.Inserting.{IsRow, PairsSpelled-held, PairsSpelled-put, rows_apart, rows_distinct}
 use Rattle.plist_binary.proofs.ItemSteps.{Contains-at, Spells-held, next, SpellItems-push}
 use Rattle.plist_binary.proofs.Sorting.{NameTexts-read}
 use Rattle.plist_binary.proofs.TableSteps.{unsort}
@@ -67,20 +66,12 @@ table_within f keys values i levels (scalar s) long holds spells valid deep =
     absurd (let held = same_held f i (holds_table keys values) (holds_scalar s) holds spells in cc)
 table_within f keys values i levels (list vs) long holds spells valid deep =
     absurd (let held = same_held f i (holds_table keys values) (holds_list spells.0) holds spells.1.0 in cc)
-table_within f keys values i levels (table ps) long holds spells valid deep =
-    let held = same_held f i (holds_table keys values) (holds_table spells.0 spells.1.0) holds spells.1.1.1.0 in
-    let same : zip spells.0 spells.1.0 ≡ zip keys values = cc in
-    record {
-      pairs = ps;
-      long = long;
-      spelled = record {
-        rows = spells.1.1.0;
-        moved = subst (λ (rows : List (ℕ × ℕ)). IsPermutation rows spells.1.1.0) same spells.1.1.1.1.0;
-        spell = spells.1.1.1.1.1;
-        valid = valid;
-      };
-      deep = omega arith;
-    }
+table_within f keys values i levels (table ps) long holds spells valid deep = record {
+  pairs = ps;
+  long = long;
+  spelled = PairsSpelled-held f keys values i ps holds valid spells;
+  deep = omega arith;
+}
 
 pub SpellsPairsWithin-table : (f keys values : List ℕ) (i levels : ℕ) → length keys ≡ length values → Holds f i (holds_table keys values) → SpellsWithin f i levels → SpellsPairsWithin f keys values (levels - 1)
 SpellsPairsWithin-table f keys values i levels long holds within = table_within f keys values i levels within.value long holds within.spells within.valid within.deep

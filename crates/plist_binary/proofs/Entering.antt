@@ -1,19 +1,19 @@
 -- Why a node is refused. An object has fewer nodes than one that leads to it, so a cycle encodes
 -- nothing.
-use Rattle.std.proofs.Common.{◌≡◌, ℕ, ◌+◌, List, [], ◌∷◌, length, get_or, zero, refl, Err, sym, subst, suc, ◌≤◌, ⊎_elim, inl, inr, arith, ◌-◌, ◌<◌}
-use Rattle.std.specs.List.{Contains, zip}
+use Rattle.std.proofs.Common.{◌≡◌, ℕ, ◌+◌, List, [], ◌∷◌, length, Err, sym, subst, suc, ◌≤◌, ⊎_elim, arith, ◌-◌}
+use Rattle.std.specs.List.{Contains}
 use Rattle.std.proofs.lemmas.List.Elements.{Contains-append_cases}
-use Rattle.plist_value.specs.Plist.{text, Plist, scalar, list, table, Items, no_items, item, Pairs, no_pairs, pair, AreOctets, IsPlist, AreItems, ArePairs}
-use Rattle.plist_value.specs.Limits.{nodes, nodes_of_items, nodes_of_pairs}
+use Rattle.plist_value.specs.Plist.{Plist, scalar, list, table, Items, no_items, item, AreOctets, IsPlist, AreItems}
+use Rattle.plist_value.specs.Limits.{nodes, nodes_of_items}
 use Rattle.plist_value.proofs.Items.{some_depth}
 use Rattle.plist_object.specs.declared.object.ObjectFault.{ObjectFault}
 use Rattle.plist_object.specs.declared.object.ObjectFault.TheVariants as object
 use Rattle.plist_object.specs.Layout.{IsLaid}
 use Rattle.plist_object.specs.Objects.{Content, holds_scalar, holds_list, holds_table}
-use Rattle.plist_object.specs.Places.{Holds, what_holds}
+use Rattle.plist_object.specs.Places.{what_holds}
 use Rattle.plist_object.specs.References.{references_of}
-use Rattle.plist_object.specs.Spelled.{Spells, SpellItems, SpellPairs}
-use Rattle.plist_object.proofs.Ascending.{Among, Among-contains, Among-permutation, Contains-among}
+use Rattle.plist_object.specs.Spelled.{Spells, SpellItems}
+use Rattle.plist_object.proofs.Ascending.{Among, Among-contains, Contains-among}
 use Rattle.plist_object.proofs.HeldRanges.{Holds-held}
 use Rattle.plist_object.proofs.Uniqueness.{same_held, same_value}
 use Rattle.plist_binary.specs.declared.fault.BinaryFault.TheVariants.{Cycle, TooDeep, TooManyNodes}
@@ -28,7 +28,12 @@ use Rattle.plist_binary.specs.Paths.{Refers, Leads}
 use Rattle.plist_binary.specs.Progress.{IsDue, RefusesNode, above}
 use Rattle.plist_binary.specs.Readings.{Refuses}
 use Rattle.plist_binary.proofs.Beginning.{IsDue-leads}
+use Rattle.plist_binary.proofs.Inserting.{PairsSpelled-held}
 use Rattle.plist_binary.proofs.ItemSteps.{Spells-held}
+use Rattle.plist_binary.proofs.TableSteps.{sums, unsort}
+use Rattle.plist_binary.specs.Readings.{texts}
+use Rattle.plist_value.specs.View.{items_of}
+use Rattle.plist_value.specs.Limits.{depth_of_pairs}
 
 -- the object encodes a value of at most this many nodes
 pub record SpellsBelow (f : List ℕ) (i most : ℕ) : Type 0 where
@@ -60,40 +65,6 @@ among_items f i (j ∷ refs) (item v vs) valid spell among =
     (λ (later : Among i refs). wider f i (nodes_of_items vs) (nodes v + nodes_of_items vs) (omega arith) (among_items f i refs vs valid.1 spell.1 later))
     among
 
--- a row among those of the pairs: its key, and its value
-among_rows : (f : List ℕ) (row : ℕ × ℕ) (rows : List (ℕ × ℕ)) (ps : Pairs) → ArePairs ps → SpellPairs f rows ps → Among row rows → SpellsBelow f row.0 (nodes_of_pairs ps) × SpellsBelow f row.1 (nodes_of_pairs ps)
-among_rows f row [] ps valid spell among = absurd among
-among_rows f row (r ∷ rows) no_pairs valid spell among =
-    absurd (let none : r ∷ rows ≡ [] = spell in cc)
-among_rows f row (r ∷ rows) (pair key v ps) valid spell among =
-    ⊎_elim
-    (λ (same : row ≡ r). (
-      record {
-        value = scalar (text key);
-        valid = valid.0;
-        spells = subst (λ (k : ℕ × ℕ). Holds f k.0 (holds_scalar (text key))) (sym same) spell.0;
-        few = omega arith;
-      },
-      record {
-        value = v;
-        valid = valid.1;
-        spells = subst (λ (k : ℕ × ℕ). Spells f k.1 v) (sym same) spell.1;
-        few = omega arith;
-      },
-    ))
-    (λ (later : Among row rows).
-    let both = among_rows f row rows ps valid.3 spell.2 later in
-    let most = 1 + nodes v + nodes_of_pairs ps in
-    (wider f row.0 (nodes_of_pairs ps) most (omega arith) both.0, wider f row.1 (nodes_of_pairs ps) most (omega arith) both.1))
-    among
-
--- two equally long lists have their members at one place in a row of both
-in_row : (keys values : List ℕ) (k d e : ℕ) → length keys ≡ length values → k < length keys → Among (get_or keys k d, get_or values k e) (zip keys values)
-in_row [] values k d e long within = absurd (omega arith)
-in_row (i ∷ keys) [] k d e long within = absurd (omega arith)
-in_row (i ∷ keys) (j ∷ values) zero d e long within = inl refl
-in_row (i ∷ keys) (j ∷ values) (suc k) d e long within = inr (in_row keys values k d e (omega arith) (omega arith))
-
 -- an object that refers to i encodes more than i does
 pub descends : (f : List ℕ) → AreOctets f → (j i : ℕ) (v : Plist) → IsPlist v → Spells f j v → Refers f j i → (most : ℕ) → nodes v ≤ suc most → SpellsBelow f i most
 descends f octets j i (scalar s) valid spells refers most few =
@@ -106,22 +77,17 @@ descends f octets j i (list vs) valid spells refers most few =
 descends f octets j i (table ps) valid spells refers most few =
     let keys = spells.0 in
     let values = spells.1.0 in
-    let rows = spells.1.1.0 in
     let holds = spells.1.1.1.0 in
-    let moved = spells.1.1.1.1.0 in
-    let spell = spells.1.1.1.1.1 in
     let long : length keys ≡ length values = Holds-held f j (holds_table keys values) octets holds in
     let held = same_held f j refers.held (holds_table keys values) refers.holds holds in
     let among = subst (λ (h : Content). Contains (references_of h) i) held refers.among in
-    let row : ℕ → ℕ × ℕ = λ k. (get_or keys k i, get_or values k i) in
-    let spelled : (k : ℕ) → k < length keys → SpellsBelow f (row k).0 (nodes_of_pairs ps) × SpellsBelow f (row k).1 (nodes_of_pairs ps) = λ k within. (
-    let there = Among-permutation (row k) (zip keys values) rows moved (in_row keys values k i i long within) in
-    among_rows f (row k) rows ps valid spell there) in
-    wider f i (nodes_of_pairs ps) most (omega arith)
-    (⊎_elim
-    (λ (at : Contains keys i). subst (λ (n : ℕ). SpellsBelow f n (nodes_of_pairs ps)) at.2 (spelled at.0 at.1).0)
-    (λ (at : Contains values i). subst (λ (n : ℕ). SpellsBelow f n (nodes_of_pairs ps)) at.2 (spelled at.0 (omega (arith, long, at.1))).1)
-    (Contains-append_cases keys values i among))
+    let spelled = PairsSpelled-held f keys values j ps holds valid spells in
+    let apart = unsort f keys values (depth_of_pairs ps) ps long spelled (omega arith) in
+    let sum = sums ps long spelled apart in
+    ⊎_elim
+    (λ (at : Contains keys i). wider f i (nodes_of_items (texts apart.us)) most (omega (arith, sum.0)) (among_items f i keys (texts apart.us) apart.valid_keys apart.spell_keys (Among-contains i keys at)))
+    (λ (at : Contains values i). wider f i (nodes_of_items (items_of apart.vs)) most (omega (arith, sum.0)) (among_items f i values (items_of apart.vs) apart.valid_values apart.spell_values (Among-contains i values at)))
+    (Contains-append_cases keys values i among)
 
 some_node : (v : Plist) → 1 ≤ nodes v
 some_node (scalar s) = omega arith

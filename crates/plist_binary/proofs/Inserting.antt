@@ -4,21 +4,22 @@ use Rattle.std.specs.Prelude.{◌&&◌}
 use Rattle.std.specs.Ordering.{eq_by_cmp, is_eq, match_ordering, ordering_reverse}
 use Rattle.std.specs.Cmp.Lexicographic.{slice_cmp}
 use Rattle.std.specs.List.{All, AllByRecursion, IsDistinct, zip}
+use Rattle.std.specs.List.Sorted.{IsPermutation}
 use Rattle.std.proofs.lemmas.Cmp.{nat_list_cmp_total, eq_by_cmp_equiv}
 use Rattle.std.proofs.lemmas.List.{get_or-take, get_or_default, length-take}
 use Rattle.std.proofs.lemmas.List.Elements.{All-from_recursion, recursion_from_All}
 use Rattle.std.proofs.lemmas.List.Sorted.{IsPermutation-refl, IsPermutation-sym, IsPermutation-cons, IsPermutation-swap, IsPermutation-trans, All-permutation}
 use Rattle.std.proofs.lemmas.Map.Keys.{IsDistinct-IsPermutation, IsDistinct-from_sorted, apart_from_distinct}
-use Rattle.plist_value.specs.Plist.{text, Plist, Pairs, no_pairs, pair, AreUnits, IsPlist, AreItems, ArePairs, IsKeyBelow}
+use Rattle.plist_value.specs.Plist.{text, Plist, table, Pairs, no_pairs, pair, AreUnits, IsPlist, AreItems, ArePairs, IsKeyBelow}
 use Rattle.plist_value.specs.Limits.{nodes, depth, payload, nodes_of_items, depth_of_items, payload_of_items, nodes_of_pairs, depth_of_pairs, payload_of_pairs}
 use Rattle.plist_value.specs.View.{items_of}
 use Rattle.plist_value.specs.Writable.{is_writable, are_writable_items, are_writable_pairs}
 use Rattle.plist_value.proofs.Items.{some_depth}
 use Rattle.plist_value.proofs.Pairs.{put_pair}
-use Rattle.plist_object.specs.Objects.{holds_scalar}
+use Rattle.plist_object.specs.Objects.{holds_scalar, holds_table}
 use Rattle.plist_object.specs.Places.{Holds}
 use Rattle.plist_object.specs.Spelled.{Spells, SpellItems, SpellPairs}
-use Rattle.plist_object.proofs.Uniqueness.{by_key, by_key_total, key_of-held, rows_ascend, same_pairs, same_rows}
+use Rattle.plist_object.proofs.Uniqueness.{by_key, by_key_total, key_of-held, rows_ascend, same_held, same_pairs, same_rows}
 use Rattle.plist_keys.proofs.Ascents.{same_key}
 use Rattle.plist_binary.specs.Readings.{PairsSpelled, texts}
 
@@ -105,6 +106,18 @@ put_rows f levels row (r ∷ rows) key v (pair next w ps) one apart spell valid 
             writable = rw rest.writable (and_swap (is_writable w) (is_writable v) (are_writable_pairs ps));
           }
     ] refl
+
+-- the pairs of a dictionary that refers to these keys and values
+pub PairsSpelled-held : (f keys values : List ℕ) (i : ℕ) (ps : Pairs) → Holds f i (holds_table keys values) → ArePairs ps → Spells f i (table ps) → PairsSpelled f (zip keys values) ps
+PairsSpelled-held f keys values i ps holds valid spells =
+    let held = same_held f i (holds_table keys values) (holds_table spells.0 spells.1.0) holds spells.1.1.1.0 in
+    let same : zip spells.0 spells.1.0 ≡ zip keys values = cc in
+    record {
+      rows = spells.1.1.0;
+      moved = subst (λ (rows : List (ℕ × ℕ)). IsPermutation rows spells.1.1.0) same spells.1.1.1.1.0;
+      spell = spells.1.1.1.1.1;
+      valid = valid;
+    }
 
 -- one more row
 pub PairsSpelled-put : (f : List ℕ) (levels : ℕ) (row : ℕ × ℕ) (all : List (ℕ × ℕ)) (key : List ℕ) (v : Plist) (ps : Pairs) → IsRow f levels row key v → AreApart f row all → PairsSpelled f all ps → Put f (row ∷ all) key v ps (put_pair key v ps)

@@ -1,8 +1,7 @@
 -- What an object encodes, from what its content, its items or its pairs took of the budget.
 use Rattle.std.proofs.Common.{◌≡◌, ℕ, ◌-◌, ◌<◌, ◌≤◌, List, Bool, ◌∙◌, ap, subst, arith, ◌∷◌, refl, true, false, sym, ⊎_elim, inl, inr}
 use Rattle.std.specs.Prelude.{◌≢◌, ◌&&◌}
-use Rattle.std.specs.List.{zip, Contains}
-use Rattle.std.specs.List.Sorted.{IsPermutation}
+use Rattle.std.specs.List.{Contains}
 use Rattle.std.proofs.Math.Dec.{eqb}
 use Rattle.std.proofs.lemmas.Bool.{and_parts}
 use Rattle.std.proofs.lemmas.Bool.Decides.{eqb_tells}
@@ -27,6 +26,7 @@ use Rattle.plist_binary.specs.Passing.{IsWithinLimits}
 use Rattle.plist_binary.specs.Progress.{IsProgress, IsProgressBut, IsDue, IsTaken, RefusesNode, above}
 use Rattle.plist_binary.specs.Readings.{Reads, ReadsItems, RefusesItems, ReadsPairs, RefusesPairs}
 use Rattle.plist_binary.specs.States.{IsState, state_at_object, AreStates, AreStatesBut, IsRecorded}
+use Rattle.plist_binary.proofs.Inserting.{PairsSpelled-held}
 use Rattle.plist_binary.proofs.ItemSteps.{Spends-then, Affords-rest}
 
 pub Reads-scalar : {f : List ℕ} {node : Node} {before left : Progress} (after : Budget) (s : Scalar) → Holds f node.object (holds_scalar s) → IsScalar s → IsTaken f node before left → Spends left.left 0 (payload_of_scalar s) after → Reads f node.object node.levels before.left (scalar s) after
@@ -108,9 +108,7 @@ table_refused f keys values i levels before left fault (scalar s) holds node ref
 table_refused f keys values i levels before left fault (list ws) holds node refused unless valid spells deep affords =
     let held = same_held f i (holds_table keys values) (holds_list spells.0) holds spells.1.0 in cc
 table_refused f keys values i levels before left fault (table ps) holds node refused unless valid spells deep affords =
-    let held = same_held f i (holds_table keys values) (holds_table spells.0 spells.1.0) holds spells.1.1.1.0 in
-    let same : zip spells.0 spells.1.0 ≡ zip keys values = cc in
-    refused.none unless ps record { rows = spells.1.1.0; moved = subst (λ (rows : List (ℕ × ℕ)). IsPermutation rows spells.1.1.0) same spells.1.1.1.1.0; spell = spells.1.1.1.1.1; valid = valid } (omega arith) (Affords-rest node affords (omega arith) (omega arith))
+    refused.none unless ps (PairsSpelled-held f keys values i ps holds valid spells) (omega arith) (Affords-rest node affords (omega arith) (omega arith))
 
 pub Refuses-table : {f : List ℕ} {node : Node} {before left : Progress} {fault : BinaryFault} (keys values : List ℕ) → Holds f node.object (holds_table keys values) → IsTaken f node before left → RefusesPairs f keys values (node.levels - 1) left.left fault → RefusesNode f node before fault
 Refuses-table {f} {node} {before} {left} {fault} keys values holds taken refused = record {
