@@ -128,8 +128,8 @@ impl<'a> Walker<'a> {
         Ok(deepest)
     }
 
-    // Reads the keys of the dictionary, and fails if two are equal. This is a function of its own so
-    // that frames of objects without keys reserve no space for it.
+    // Reads the keys of the dictionary, and fails if two are equal. This is a function of its own,
+    // so that frames of objects without keys reserve no space for it.
     #[inline(never)]
     fn distinct_keys(
         &self,

@@ -1,4 +1,4 @@
-use Rattle.std.proofs.Common.{◌≡◌, ◌≤◌, ◌+◌, ℕ, List, [], take, length, rules, refl, subst, sym, ap, ◌∙◌, arith}
+use Rattle.std.proofs.Common.{◌≡◌, ◌≤◌, ◌+◌, ℕ, List, [], take, length, rules, refl, subst, sym, arith}
 use Rattle.std.specs.List.{zip}
 use Rattle.std.proofs.lemmas.List.{take_all}
 use Rattle.std.proofs.lemmas.List.Sorted.{IsPermutation-refl}
@@ -20,7 +20,7 @@ items-loop-i-preserved t c =
     let f = octets_of c.args.self.now.file in
     let refs = numbers_of c.args.refs in
     let more = AreSpelled-next f refs c.loop-i.i c.get.result (view_items c.loop-i.items.items) (view c.in_ok-value.field-0) (omega arith) c.get.ensures c.loop-i.invariant c.in_ok-value.ensures in
-    let pushed : view_items c.push.new.self.items ≡ push (view_items c.loop-i.items.items) (view c.in_ok-value.field-0) = ap view_items c.in_ok-push.ensures.items ∙ view_items-push c.loop-i.items.items c.in_ok-value.field-0 in
+    let pushed : view_items c.push.new.self.items ≡ push (view_items c.loop-i.items.items) (view c.in_ok-value.field-0) = rw c.in_ok-push.ensures.items (view_items-push c.loop-i.items.items c.in_ok-value.field-0) in
     subst (λ (vs : Items). AreSpelled f (take (c.loop-i.i + 1) refs) vs) (sym pushed) more
 
 pub pairs-text-requires : goal.pairs-text-requires
