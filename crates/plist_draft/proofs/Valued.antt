@@ -1,10 +1,11 @@
--- What the remaining items and entries encode, together with those that were appended.
+-- What the items and entries encode that were appended, and those that remain.
 use Rattle.std.proofs.Common.{◌≡◌, ℕ, Result, Ok, Err, IfOk, List, [], ◌∷◌, ◌++◌, length, refl, sym, ap, subst, ◌∙◌, arith, append_assoc, length-append}
 use Rattle.std.specs.List.{zip}
 use Rattle.std.specs.List.Sorted.{IsPermutation}
 use Rattle.std.proofs.lemmas.List.{append-nil}
 use Rattle.std.proofs.lemmas.List.Sorted.{IsPermutation-refl}
 use Rattle.plist_value.specs.Plist.{text, Plist, scalar, Items, no_items, item, Pairs, no_pairs, pair, table}
+use Rattle.plist_value.proofs.Items.{push}
 use Rattle.plist_object.specs.Objects.{Content}
 use Rattle.plist_draft.specs.Encoded.{Keeps, SpellsIn, SpellItemsIn, SpellPairsIn}
 
@@ -18,23 +19,12 @@ Keeps-both first second third a b = record {
   pairs = λ rows ps h. b.pairs rows ps (a.pairs rows ps h);
 }
 
--- If the remaining numbers encode the remaining items, then all numbers encode all items.
-pub record ItemsLeft (helds : List Content) (done : List ℕ) (left all : Items) : Type 0 where
-  pub ends : (later : List Content) (rest : List ℕ) → Keeps helds later → SpellItemsIn later rest left → SpellItemsIn later (done ++ rest) all
-
-pub items-next : (helds after : List Content) (done pushed : List ℕ) (n : ℕ) (v : Plist) (left rest all : Items) → Keeps helds after → SpellsIn after n v → left ≡ item v rest → pushed ≡ done ++ (n ∷ []) → ItemsLeft helds done left all → ItemsLeft after pushed rest all
-items-next helds after done pushed n v left rest all keeps spells first added begun = record {
-  ends = λ later refs keeps_later encoded.
-      let moved : pushed ++ refs ≡ done ++ (n ∷ refs) = ap (λ (xs : List ℕ). xs ++ refs) added ∙ append_assoc done (n ∷ []) refs in
-      let item_encoded : SpellItemsIn later (n ∷ refs) (item v rest) = (keeps_later.value n v spells, encoded) in
-      let left_encoded = subst (λ (vs : Items). SpellItemsIn later (n ∷ refs) vs) (sym first) item_encoded in
-      subst (λ (xs : List ℕ). SpellItemsIn later xs all) (sym moved) (begun.ends later (n ∷ refs) (Keeps-both helds after later keeps keeps_later) left_encoded);
-}
-
-pub items-end : (helds : List Content) (done : List ℕ) (left all : Items) → left ≡ no_items → ItemsLeft helds done left all → SpellItemsIn helds done all
-items-end helds done left all none begun =
-    let encoded : SpellItemsIn helds [] left = rw none refl in
-    subst (λ (refs : List ℕ). SpellItemsIn helds refs all) (append-nil done) (begun.ends helds [] (Keeps-itself helds) encoded)
+-- one more item
+pub items-push : (helds : List Content) (refs : List ℕ) (vs : Items) (n : ℕ) (v : Plist) → SpellItemsIn helds refs vs → SpellsIn helds n v → SpellItemsIn helds (refs ++ (n ∷ [])) (push vs v)
+items-push helds [] no_items n v spells one = (one, refl)
+items-push helds (r ∷ refs) no_items n v spells one = absurd (let none : r ∷ refs ≡ [] = spells in cc)
+items-push helds [] (item w vs) n v spells one = absurd spells
+items-push helds (r ∷ refs) (item w vs) n v spells one = (spells.0, items-push helds refs vs n v spells.1 one)
 
 zip-last : (xs ys : List ℕ) (x y : ℕ) → length xs ≡ length ys → zip (xs ++ (x ∷ [])) (ys ++ (y ∷ [])) ≡ zip xs ys ++ ((x, y) ∷ [])
 zip-last [] [] x y same = refl

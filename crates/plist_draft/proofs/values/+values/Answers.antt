@@ -1,26 +1,27 @@
-use Rattle.std.proofs.Common.{rules, IfOk, ◌≡◌, ℕ, ◌+◌, ◌<◌, ◌≤◌, ap, sym, subst, ◌∙◌, List, ◌∷◌, length, get_or, drop}
+use Rattle.std.proofs.Common.{rules, IfOk, ◌≡◌, ℕ, ◌+◌, ◌<◌, ◌≤◌, ap, sym, subst, ◌∙◌, List, ◌∷◌, length, ◌++◌, [], get_or, take}
 use Rattle.std.specs.Ordering.{nat_cmp}
 use Rattle.std.specs.Cmp.Lexicographic.{slice_cmp}
 use Rattle.std.specs.List.Sorted.{IsStrictlySortedBy}
 use Rattle.std.specs.Map.{keys_of}
-use Rattle.std.proofs.lemmas.List.{drop_more, drop_all}
+use Rattle.std.proofs.lemmas.List.{take_more, take_all}
 use Rattle.std.proofs.lemmas.Result.{IfOk-from_err}
-use Rattle.plist_value.specs.Plist.{text, Plist, scalar, table, Items, no_items, item, AreItems, AreUnits, ArePairs}
+use Rattle.plist_value.specs.Plist.{text, Plist, scalar, table, AreItems, AreUnits, ArePairs}
 use Rattle.plist_value.specs.View.{view, view_items, view_pairs}
 use Rattle.plist_value.specs.declared.value.Value.{Value}
+use Rattle.plist_value.proofs.Items.{push, AreItems-push, view_items-push}
 use Rattle.plist_value.proofs.Shown.{view-table}
 use Rattle.plist_value.proofs.Keys.{IsKeyBelow-ordered}
-use Rattle.plist_draft.specs.Encoded.{SpellsIn}
+use Rattle.plist_draft.specs.Encoded.{SpellItemsIn, SpellsIn}
 use Rattle.plist_draft.specs.View.{objects}
-use Rattle.plist_draft.proofs.Valued.{Keeps-both, items-next, items-end, pairs-next, pairs-end, table-put}
+use Rattle.plist_draft.proofs.Valued.{Keeps-both, items-push, pairs-next, pairs-end, table-put}
 use Rattle.plist_draft.proofs.values.+values.Goals as goal
 
-items-more : (vs : List Value) (i : ℕ) (v : Value) → v ≡ get_or vs i v → i < length vs → view_items (drop i vs) ≡ item (view v) (view_items (drop (i + 1) vs))
+items-more : (vs : List Value) (i : ℕ) (v : Value) → v ≡ get_or vs i v → i < length vs → view_items (take (i + 1) vs) ≡ push (view_items (take i vs)) (view v)
 items-more vs i v is h =
-    ap view_items (drop_more vs i v h) ∙ ap (λ u. item (view u) (view_items (drop (i + 1) vs))) (sym is)
+    ap view_items (take_more vs i v h ∙ ap (λ u. take i vs ++ u ∷ []) (sym is)) ∙ view_items-push (take i vs) v
 
-none-left : (vs : List Value) (i : ℕ) → length vs ≤ i → view_items (drop i vs) ≡ no_items
-none-left vs i h = ap view_items (drop_all i vs h)
+items-all : (vs : List Value) (i : ℕ) → length vs ≤ i → view_items (take i vs) ≡ view_items vs
+items-all vs i h = ap view_items (take_all i vs h)
 
 pub put_items-loop-item-preserved : goal.put_items-loop-item-preserved
 put_items-loop-item-preserved t c =
@@ -29,17 +30,16 @@ put_items-loop-item-preserved t c =
     let element = c.item-item.result in
     let items : c.deref-item-items.result.now ≡ all = c.deref-item-items.ensures.value in
     let below : i < length all = search rules in
-    let first : view_items (drop i all) ≡ item (view element) (view_items (drop (i + 1) all)) = items-more all i element (search rules) below in
+    let more : view_items (take (i + 1) all) ≡ push (view_items (take i all)) (view element) = items-more all i element (search rules) below in
     record {
       kept = Keeps-both _ _ _ c.loop-item.invariant.kept c.put_value.ensures.kept;
-      left = items-next _ _ _ _ c.in_ok-put_value.field-0 (view element) _ _ _ c.put_value.ensures.kept c.in_ok-put_value.ensures.spells first c.in_ok-push.ensures.items c.loop-item.invariant.left;
-      valid = λ rest. c.loop-item.invariant.valid (subst (λ (vs : Items). AreItems vs) (sym first) (c.in_ok-put_value.ensures.valid, rest));
+      spells = rw (more, c.in_ok-push.ensures.items) (items-push _ _ _ c.in_ok-put_value.field-0 (view element) (c.put_value.ensures.kept.items _ _ c.loop-item.invariant.spells) c.in_ok-put_value.ensures.spells);
+      valid = rw more (AreItems-push _ (view element) c.loop-item.invariant.valid c.in_ok-put_value.ensures.valid);
     }
 
 pub put_items-returns-clause-spells : goal.put_items-returns-clause-spells
 put_items-returns-clause-spells t c =
-    let all = c.args.items.now.items in
-    items-end _ _ _ _ (none-left all c.loop-item.item-index (search rules)) c.loop-item.invariant.left
+    subst (SpellItemsIn (objects c.loop-item.draft) c.loop-item.numbers.items) (items-all c.args.items.now.items c.loop-item.item-index (search rules)) c.loop-item.invariant.spells
 
 pub put_pairs-loop-key-preserved : goal.put_pairs-loop-key-preserved
 put_pairs-loop-key-preserved t c =
@@ -83,7 +83,7 @@ put_items-returns-in_err-put_value-clause-kept t c = Keeps-both _ _ _ c.loop-ite
 
 pub put_items-returns-clause-valid : goal.put_items-returns-clause-valid
 put_items-returns-clause-valid t c =
-    c.loop-item.invariant.valid (rw (none-left c.args.items.now.items c.loop-item.item-index (search rules)) tt)
+    subst AreItems (items-all c.args.items.now.items c.loop-item.item-index (search rules)) c.loop-item.invariant.valid
 
 pub put_value-returns-in_ok-keys-in-Table-clause-spells : goal.put_value-returns-in_ok-keys-in-Table-clause-spells
 put_value-returns-in_ok-keys-in-Table-clause-spells t c =

@@ -1,20 +1,20 @@
-use Rattle.std.proofs.Common.{drop}
+use Rattle.std.proofs.Common.{take}
 use Rattle.std.specs.Ordering.{nat_cmp}
 use Rattle.std.specs.Cmp.Lexicographic.{slice_cmp}
 use Rattle.std.specs.List.Sorted.{IsStrictlySortedBy}
 use Rattle.std.specs.Map.{keys_of}
 use Rattle.plist_value.specs.Plist.{AreItems, ArePairs}
 use Rattle.plist_value.specs.View.{view_items, view_pairs}
-use Rattle.plist_draft.specs.Encoded.{Keeps}
+use Rattle.plist_draft.specs.Encoded.{Keeps, SpellItemsIn}
 use Rattle.plist_draft.specs.View.{objects}
-use Rattle.plist_draft.proofs.Valued.{ItemsLeft, PairsLeft}
+use Rattle.plist_draft.proofs.Valued.{PairsLeft}
 use Rattle.plist_draft.proofs.values.+values.Given as goal
 
 abbrev pub invariant-put_items-loop-item : goal.invariant-put_items-loop-item
 invariant-put_items-loop-item l = record {
   kept : Keeps (objects l.fn.draft) (objects l.draft);
-  left : ItemsLeft (objects l.draft) l.numbers.items (view_items (drop l.item-index l.items.items)) (view_items l.items.items);
-  valid : AreItems (view_items (drop l.item-index l.items.items)) → AreItems (view_items l.items.items);
+  spells : SpellItemsIn (objects l.draft) l.numbers.items (view_items (take l.item-index l.items.items));
+  valid : AreItems (view_items (take l.item-index l.items.items));
 }
 
 abbrev pub invariant-put_pairs-loop-key : goal.invariant-put_pairs-loop-key
