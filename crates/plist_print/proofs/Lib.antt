@@ -14,8 +14,6 @@ pub mod DataLines
 pub mod Endings
 pub mod DataFronts
 pub mod ScalarFronts
-pub mod Fewest
-pub mod Padding
 pub mod TextBounds
 pub mod RealBounds
 pub mod Bounds

@@ -4,26 +4,40 @@ use Rattle.std.specs.Prelude.{nat_le, nat_lt}
 use Rattle.std.proofs.lemmas.Bool.{cases_Bool, and_parts, cases_lt}
 use Rattle.std.proofs.lemmas.Bool.Decides.{nat_tests}
 use Rattle.std.proofs.lemmas.Nat.{mul-le, div-mul-add, mod-mul-add, div-add-mod', mod_below}
-use Rattle.std.proofs.Math.Nat.{pow-suc, div-lt_iff_lt-mul, pow-le-pow_right}
-use Rattle.plist_print.specs.Reals.{Format, single, double, Scaled, value_of, nearest, reads_as, shortest, scaled_in, decimal_of}
-use Rattle.plist_print.proofs.Compared.{le-told, lt-told, gt-told}
-
-below-hidden : (h b : ℕ) → b < h → value_of h b ≡ b
-unfolding value_of
-below-hidden h b lt = let is : nat_lt b h ≡ true = grind (arith, nat_tests) in rw is refl
+use Rattle.std.proofs.Math.Nat.{div-lt_iff_lt-mul, pow-le-pow_right}
+use Rattle.plist_print.specs.declared.numbers.Format.{Format}
+use Rattle.plist_print.specs.Reals.{single, double, Scaled, value_of, nearest, reads_as, shortest, scaled_in, decimal_of}
+use Rattle.plist_print.proofs.Compared.{le-told, lt-told, gt-told, ascends}
 
 past-hidden : (h b : ℕ) → h ≤ b → value_of h b ≡ (h + b % h) * 2 ^ (b / h - 1)
 unfolding value_of
 past-hidden h b le = let is : nat_lt b h ≡ false = grind (arith, nat_tests) in rw is refl
 
--- the value from the exponent and the digits
-pub value-at : (h q t : ℕ) → t < h → value_of h (suc q * h + t) ≡ (h + t) * 2 ^ q
-value-at h q t lt =
+value-within : (h q t : ℕ) → t < h → value_of h (suc q * h + t) ≡ (h + t) * 2 ^ q
+value-within h q t lt =
     let d : (suc q * h + t) / h ≡ suc q = div-mul-add (suc q) h t lt in
     let m : (suc q * h + t) % h ≡ t = mod-mul-add (suc q) h t lt in
-    let le : h ≤ suc q * h + t = grind arith in
     let one : suc q - 1 ≡ q = omega arith in
-    past-hidden h (suc q * h + t) le ∙ rw (d, m, one) refl
+    past-hidden h (suc q * h + t) (grind arith) ∙ rw (d, m, one) refl
+
+-- the value from the exponent and the digits, also where the next exponent begins
+pub value-at : (h q t : ℕ) → 0 < h → t ≤ h → value_of h (suc q * h + t) ≡ (h + t) * 2 ^ q
+value-at h q t pos le = elim (cases_lt t h) [
+  | inl lt ↦ value-within h q t lt
+  | inr full ↦ (
+      let next : suc q * h + t ≡ suc (suc q) * h + 0 = (let same : suc (suc q) * h ≡ suc q * h + h = grind arith in omega arith) in
+      let twice : 2 ^ suc q ≡ 2 * 2 ^ q = omega arith in
+      let last : t ≡ h = omega arith in
+      rw (next, value-within h (suc q) 0 pos, twice, last) (grind arith)
+      )
+]
+
+pub below-hidden : (h b : ℕ) → 0 < h → b ≤ h → value_of h b ≡ b
+unfolding value_of
+below-hidden h b pos le = elim (cases_lt b h) [
+  | inl lt ↦ (let is : nat_lt b h ≡ true = grind (arith, nat_tests) in rw is refl)
+  | inr last ↦ (let is : b ≡ 1 * h + 0 = omega arith in rw is (value-within h 0 0 pos ∙ omega arith))
+]
 
 -- the bits, split into exponent and digits
 record Parted (h b : ℕ) : Type 0 where
@@ -42,73 +56,21 @@ parted h b pos le =
     by zero t e lt = absurd (omega arith)
     by (suc q) t e lt = record { q = q; t = t; within = lt; is = sym e }
 
-double-pow : (q : ℕ) → 2 ^ suc q ≡ 2 ^ q + 2 ^ q
-double-pow q = pow-suc 2 q ∙ omega arith
-
-step-within : (h q t : ℕ) → suc t < h → value_of h (suc q * h + t) ≤ value_of h (suc q * h + suc t)
-step-within h q t lt =
-    let a = value-at h q t (omega arith) in
-    let b = value-at h q (suc t) lt in
-    let c : (h + t) * 2 ^ q ≤ (h + suc t) * 2 ^ q = mul-le (h + t) (2 ^ q) (h + suc t) (2 ^ q) (omega arith) (omega arith) in
-    omega arith
-
-step-over : (h q t : ℕ) → 0 < h → suc t ≡ h → value_of h (suc q * h + t) ≤ value_of h (suc (suc q) * h + 0)
-step-over h q t pos last =
-    let a = value-at h q t (omega arith) in
-    let b = value-at h (suc q) 0 pos in
-    let c : (h + t) * 2 ^ q ≤ (h + h) * 2 ^ q = mul-le (h + t) (2 ^ q) (h + h) (2 ^ q) (omega arith) (omega arith) in
-    let d : (h + 0) * 2 ^ suc q ≡ (h + h) * 2 ^ q = ap (λ p. (h + 0) * p) (double-pow q) ∙ grind arith in
-    omega arith
-
-value-step : (h b : ℕ) → 0 < h → value_of h b ≤ value_of h (suc b)
-value-step h b pos = elim (cases_lt b h) [
-  | inl lt ↦ elim (cases_lt (suc b) h) [
-    | inl more ↦ (let x = below-hidden h b lt in let y = below-hidden h (suc b) more in omega arith)
-    | inr last ↦ (
-        let x = below-hidden h b lt in
-        let is : suc b ≡ 1 * h + 0 = omega arith in
-        let y : value_of h (suc b) ≡ (h + 0) * 2 ^ 0 = ap (value_of h) is ∙ value-at h 0 0 pos in
-        omega arith
-        )
-  ]
+value-step : (h : ℕ) → 0 < h → (b : ℕ) → value_of h b ≤ value_of h (suc b)
+value-step h pos b = elim (cases_lt b h) [
+  | inl lt ↦ (let x = below-hidden h b pos (omega arith) in let y = below-hidden h (suc b) pos lt in omega arith)
   | inr past ↦ (
       let p = parted h b pos past in
-      elim (cases_lt (suc p.t) h) [
-        | inl more ↦ (
-            let x = ap (value_of h) p.is in
-            let is : suc b ≡ suc p.q * h + suc p.t = (let e = p.is in omega arith) in
-            let y = ap (value_of h) is in
-            let z = step-within h p.q p.t more in
-            omega arith
-            )
-        | inr last ↦ (
-            let x = ap (value_of h) p.is in
-            let w = p.within in
-            let full : suc p.t ≡ h = omega arith in
-            let is : suc b ≡ suc (suc p.q) * h + 0 = (let e = p.is in let f : suc (suc p.q) * h ≡ suc p.q * h + h = grind arith in omega arith) in
-            let y = ap (value_of h) is in
-            let z = step-over h p.q p.t pos full in
-            omega arith
-            )
-      ]
+      let next : suc b ≡ suc p.q * h + suc p.t = (let e = p.is in omega arith) in
+      let x = ap (value_of h) p.is ∙ value-at h p.q p.t pos (omega (arith, p.within)) in
+      let y = ap (value_of h) next ∙ value-at h p.q (suc p.t) pos p.within in
+      let z = mul-le (h + p.t) (2 ^ p.q) (h + suc p.t) (2 ^ p.q) (omega arith) (omega arith) in
+      omega arith
       )
 ]
 
-value-steps : (h a n : ℕ) → 0 < h → value_of h a ≤ value_of h (a + n)
-value-steps h a zero pos = let e : a + 0 ≡ a = omega arith in let f = ap (value_of h) e in omega arith
-value-steps h a (suc n) pos =
-    let x = value-steps h a n pos in
-    let y = value-step h (a + n) pos in
-    let e : a + suc n ≡ suc (a + n) = omega arith in
-    let f = ap (value_of h) e in
-    omega arith
-
 pub value-ascends : (h a b : ℕ) → 0 < h → a ≤ b → value_of h a ≤ value_of h b
-value-ascends h a b pos le =
-    let e : a + (b - a) ≡ b = omega arith in
-    let f = ap (value_of h) e in
-    let x = value-steps h a (b - a) pos in
-    omega arith
+value-ascends h a b pos le = ascends (value_of h) (value-step h pos) a b le
 
 -- a decimal that reads as a real is between the midpoints to its neighbours
 pub record Between (x : Scaled) (over n : ℕ) : Type 0 where

@@ -9,7 +9,8 @@ use Rattle.std.proofs.Math.Nat.{div-lt_iff_lt-mul, pow-le-pow_right}
 use Rattle.byteorder.specs.Endian.{big_number}
 use Rattle.plist_value.specs.Plist.{IsWhole}
 use Rattle.plist_print.specs.Units.{printed_data}
-use Rattle.plist_print.specs.Reals.{Format, double, decimal_of, last_digits, printed_decimal, printed_finite, printed_size, printed_real}
+use Rattle.plist_print.specs.declared.numbers.Format.{Format}
+use Rattle.plist_print.specs.Reals.{double, decimal_of, last_digits, printed_decimal, printed_finite, printed_size, printed_real}
 use Rattle.plist_print.specs.Dates.{year_of, month_of, days_before, days_of_months, printed_day, printed_time, printed_moment, second_of, in_brackets, printed_date}
 use Rattle.plist_print.proofs.Neighbours.{decimal-is, decimal-short, IsFormat, double-format}
 use Rattle.plist_print.proofs.Deciding.{some-power}

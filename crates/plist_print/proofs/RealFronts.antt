@@ -16,7 +16,8 @@ use Rattle.plist_value.specs.Plist.{AreOctets, IsOctetsOf}
 use Rattle.plist_object.proofs.SameOctets.{big_bytes-big_number}
 use Rattle.plist_print.specs.Units.{printed_data}
 use Rattle.plist_value.specs.Digits.{two_digits}
-use Rattle.plist_print.specs.Reals.{Format, double, reads_as, scaled_in, decimal_of, last_digits, printed_decimal, printed_size, printed_real}
+use Rattle.plist_print.specs.declared.numbers.Format.{Format}
+use Rattle.plist_print.specs.Reals.{double, reads_as, scaled_in, decimal_of, last_digits, printed_decimal, printed_size, printed_real}
 use Rattle.plist_print.specs.Dates.{second_of, in_brackets, printed_date}
 use Rattle.plist_print.proofs.Fronts.{head_of, tail_of, heads, tails, EndsDigits, digits-front, kind_of_head, digits-kind}
 use Rattle.plist_print.proofs.UnitFronts.{data-front}
@@ -48,6 +49,7 @@ digit-low : (d : ℕ) → d < 10 → digit_value (48 + d) ≡ d
 digit-low d h = grind (arith, nat_tests)
 
 last-are_digits : (k n : ℕ) → AllDigits 10 (last_digits k n)
+unfolding last_digits
 last-are_digits zero n = tt
 last-are_digits (suc k) n =
     let low : n / 10 ^ k % 10 < 10 = omega arith in
@@ -70,6 +72,7 @@ next-quotient n k =
     ap (λ m. n / m) e ∙ sym (div-div-eq-div-mul n (10 ^ k) 10)
 
 last-same : (k n m : ℕ) → n / 10 ^ k ≡ m / 10 ^ k → last_digits k n ≡ last_digits k m → n ≡ m
+unfolding last_digits
 last-same zero n m e f = let a : n / 10 ^ 0 ≡ n = omega arith in let b : m / 10 ^ 0 ≡ m = omega arith in sym a ∙ e ∙ b
 last-same (suc k) n m e f =
     let x = n / 10 ^ k in
@@ -80,6 +83,7 @@ last-same (suc k) n m e f =
     last-same k n m same (tails (48 + x % 10) (48 + y % 10) (last_digits k n) (last_digits k m) f)
 
 pub last-long : (k n : ℕ) → length (last_digits k n) ≡ k
+unfolding last_digits
 last-long zero n = refl
 last-long (suc k) n = let e = last-long k n in omega arith
 

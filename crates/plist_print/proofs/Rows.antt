@@ -8,18 +8,18 @@ use Rattle.ucd_derived.specs.Binary.{is_default_ignorable_code_point}
 use Rattle.ucd_derived.specs.DefaultIgnorableCodePointRanges.{default_ignorable_code_point_ranges}
 use Rattle.ucd_table.specs.Rows.{value_in, in_ranges}
 use Rattle.plist_print.specs.Units.{is_invisible, printed_unit}
-use Rattle.plist_print.specs.Reals.{value_of, decimal_of}
+use Rattle.plist_print.specs.Reals.{value_of, decimal_of, last_digits}
 use Rattle.plist_print.specs.Dates.{days_before, days_of_months, year_of, month_of, printed_day, printed_time, printed_moment, second_of}
 use Rattle.plist_print.specs.Printed.{printed}
 use Rattle.std.specs.Fmt.{digits}
 use Rattle.std.specs.Char.{encode_utf8}
 
 pub printed_three : printed (scalar (real8 (0x40 ∷ 0x0a ∷ 0 ∷ 0 ∷ 0 ∷ 0 ∷ 0 ∷ 0 ∷ []))) ≡ codes "3.25\n"
-unfolding decimal_of value_of digits
+unfolding decimal_of value_of digits last_digits
 printed_three = refl
 
 pub printed_small : printed (scalar (real4 (0x40 ∷ 0x50 ∷ 0 ∷ 0 ∷ []))) ≡ codes "3.25f\n"
-unfolding decimal_of value_of digits
+unfolding decimal_of value_of digits last_digits
 printed_small = refl
 
 pub printed_infinity : printed (scalar (real4 (0xff ∷ 0x80 ∷ 0 ∷ 0 ∷ []))) ≡ codes "-infinityf\n"
@@ -33,25 +33,25 @@ unfolding decimal_of value_of
 printed_least = refl
 
 pub printed_date : printed (scalar (moment (0x41 ∷ 0xc7 ∷ 0x69 ∷ 0x26 ∷ 0x37 ∷ 0 ∷ 0 ∷ 0 ∷ []))) ≡ codes "date 785534062.0 (2025-11-22T19:54:22Z)\n"
-unfolding decimal_of value_of digits second_of printed_moment printed_day printed_time year_of month_of days_of_months
+unfolding decimal_of value_of digits second_of printed_moment printed_day printed_time year_of month_of days_of_months last_digits
 printed_date = refl
 
 -- not a whole second
 pub printed_date_half : printed (scalar (moment (0x3f ∷ 0xe0 ∷ 0 ∷ 0 ∷ 0 ∷ 0 ∷ 0 ∷ 0 ∷ []))) ≡ codes "date 0.5\n"
-unfolding decimal_of value_of digits second_of printed_moment printed_day printed_time year_of month_of days_of_months
+unfolding decimal_of value_of digits second_of printed_moment printed_day printed_time year_of month_of days_of_months last_digits
 printed_date_half = refl
 
 -- the first and the last second with a date in parentheses, and the next
 pub printed_date_first : printed (scalar (moment (0xc2 ∷ 0x2d ∷ 0x63 ∷ 0xc3 ∷ 0x7f ∷ 0 ∷ 0 ∷ 0 ∷ []))) ≡ codes "date -63113904000.0 (0001-01-01T00:00:00Z)\n"
-unfolding decimal_of value_of digits second_of printed_moment printed_day printed_time year_of month_of days_of_months
+unfolding decimal_of value_of digits second_of printed_moment printed_day printed_time year_of month_of days_of_months last_digits
 printed_date_first = refl
 
 pub printed_date_last : printed (scalar (moment (0x42 ∷ 0x4d ∷ 0x62 ∷ 0xd2 ∷ 0x3c ∷ 0x7f ∷ 0x80 ∷ 0 ∷ []))) ≡ codes "date 252423993599.0 (9999-12-31T23:59:59Z)\n"
-unfolding decimal_of value_of digits second_of printed_moment printed_day printed_time year_of month_of days_of_months
+unfolding decimal_of value_of digits second_of printed_moment printed_day printed_time year_of month_of days_of_months last_digits
 printed_date_last = refl
 
 pub printed_date_behind : printed (scalar (moment (0x42 ∷ 0x4d ∷ 0x62 ∷ 0xd2 ∷ 0x3c ∷ 0x80 ∷ 0 ∷ 0 ∷ []))) ≡ codes "date 252423993600.0\n"
-unfolding decimal_of value_of digits second_of printed_moment printed_day printed_time year_of month_of days_of_months
+unfolding decimal_of value_of digits second_of printed_moment printed_day printed_time year_of month_of days_of_months last_digits
 printed_date_behind = refl
 
 -- days of the calendar; day 0 is 0001-01-01
@@ -59,15 +59,15 @@ pub first_of_2001 : days_before 2001 ≡ 730485
 first_of_2001 = refl
 
 pub leap_century : printed_day 730178 ≡ codes "2000-02-29"
-unfolding printed_day year_of month_of days_of_months
+unfolding printed_day year_of month_of days_of_months last_digits
 leap_century = refl
 
 pub after_century : printed_day 693654 ≡ codes "1900-03-01"
-unfolding printed_day year_of month_of days_of_months
+unfolding printed_day year_of month_of days_of_months last_digits
 after_century = refl
 
 pub year_end : printed_day 738884 ≡ codes "2023-12-31"
-unfolding printed_day year_of month_of days_of_months
+unfolding printed_day year_of month_of days_of_months last_digits
 year_end = refl
 
 pub printed_escapes : printed (scalar (text (34 ∷ 92 ∷ 10 ∷ 9 ∷ 13 ∷ 7 ∷ 126 ∷ 127 ∷ []))) ≡ codes "\"\\\"\\\\\\n\\t\\r\\U0007~\\U007f\"\n"

@@ -10,7 +10,8 @@ use Rattle.std.proofs.lemmas.Int.{ints}
 use Rattle.plist_value.specs.Plist.{Scalar, text, whole, flag, real4, real8, moment, bytes, AreOctets, IsScalar, IsWhole}
 use Rattle.plist_print.specs.Units.{printed_units, printed_text}
 use Rattle.plist_value.specs.Digits.{two_digits}
-use Rattle.plist_print.specs.Reals.{Format, single, double, printed_real}
+use Rattle.plist_print.specs.declared.numbers.Format.{Format}
+use Rattle.plist_print.specs.Reals.{single, double, printed_real}
 use Rattle.plist_print.specs.Dates.{printed_date}
 use Rattle.plist_print.specs.Printed.{indent, enclosed, octet_lines, printed_scalar, printed_line}
 use Rattle.plist_print.proofs.Fronts.{head_of, tail_of, heads, tails, EndsDigits, digits-front, kind_of_head, digits-kind}

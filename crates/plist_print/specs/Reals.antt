@@ -5,17 +5,7 @@ use Rattle.std.specs.Prelude.{if◌then◌else◌}
 use Rattle.std.specs.Fmt.{sign_text}
 use Rattle.byteorder.specs.Endian.{big_number}
 use Rattle.plist_print.specs.Units.{printed_data}
-
--- A format: the number of bytes, the sign bit, the bits of the least normal real and those of
--- infinity. 1 is 2^`one` times the least real above 0. Reals with an exponent below `to` can have
--- decimals.
-pub record Format : Type 0 where
-  pub octets : ℕ
-  pub sign : ℕ
-  pub hidden : ℕ
-  pub infinite : ℕ
-  pub one : ℕ
-  pub to : ℕ
+use Rattle.plist_print.specs.declared.numbers.Format.{Format}
 
 -- four bytes; decimals below 2^25
 abbrev pub single : Format
@@ -86,7 +76,7 @@ unfoldable pub decimal_of : Format → ℕ → Option (ℕ × ℕ)
 decimal_of f bits = if nat_lt (bits / f.hidden) f.to then shortest (scaled_in f bits) 21 1 else None
 
 -- the last k decimal digits of n
-abbrev pub last_digits : ℕ → ℕ → List ℕ
+unfoldable pub last_digits : ℕ → ℕ → List ℕ
 last_digits zero n = []
 last_digits (suc k) n = (48 + n / 10 ^ k % 10) ∷ last_digits k n
 

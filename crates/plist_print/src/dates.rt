@@ -1,5 +1,5 @@
 //! How dates are printed: the seconds since 2001 and, in parentheses, date and time in UTC.
-ghost use Rattle.std.specs.Prelude.{◌≡◌, ◌+◌, ◌-◌, ◌*◌, ◌/◌, ◌<◌, ◌≤◌, ◌++◌, ◌%◌, ◌==◌, ◌&&◌};
+ghost use Rattle.std.specs.Prelude.{◌≡◌, ◌+◌, ◌-◌, ◌*◌, ◌/◌, ◌<◌, ◌≤◌, ◌++◌, ◌%◌, ◌^◌};
 ghost use Rattle.std.specs.Prelude.{IfSome, OnOk, None, if◌then◌else◌};
 ghost use Rattle.std.specs.Option.{option_map};
 ghost use Rattle.plist_print.specs.Dates.{days_in_month, days_of_months, days_before};
@@ -8,26 +8,26 @@ ghost use Rattle.plist_print.specs.Dates.{printed_time, printed_moment, second_a
 ghost use Rattle.plist_print.specs.Dates.{second_of, in_brackets, printed_date};
 ghost use Rattle.plist_print.specs.Shown.{decimal_in};
 
-use crate::decimals::{ones, tens};
-use crate::numbers::{DayOfMonth, Decimal};
-use crate::reals::{decimal_of_double, put_double};
+use crate::decimals::put_last_digits;
+use crate::numbers::DOUBLE;
+use crate::reals::{decimal_of, put_real};
 use byteorder::{BigEndian, ByteOrder};
 use std::alloc::AllocError;
 
 // The number of seconds in a day.
-const DAY: u64 = 86_400;
+const DAY: u128 = 86_400;
 
 // The number of seconds from 0001-01-01T00:00:00Z to 2001-01-01T00:00:00Z.
-const UNTIL_2001: u64 = 63_113_904_000;
+const UNTIL_2001: u128 = 63_113_904_000;
 
 // The number of seconds from 0001-01-01T00:00:00Z to 10000-01-01T00:00:00Z.
-const UNTIL_10000: u64 = 315_537_897_600;
+const UNTIL_10000: u128 = 315_537_897_600;
 
 // Appends the seconds of a date, and date and time in parentheses if it has them.
 pub(crate) fn put_date(out: &mut Vec<u8>, octets: &[u8; 8]) -> Result<(), AllocError>
     ensures { OnOk result (out.new.items ≡ out.old.items ++ printed_date octets.now) }
 {
-    put_double(out, octets)?;
+    put_real(out, DOUBLE, octets)?;
     put_brackets(out, octets)
 }
 
@@ -45,38 +45,25 @@ fn put_brackets(out: &mut Vec<u8>, octets: &[u8; 8]) -> Result<(), AllocError>
 
 // Returns the number of seconds from 0001-01-01T00:00:00Z to a date, if it is a whole second in the
 // years 1 to 9999.
-fn second_of(octets: &[u8; 8]) -> Option<u64>
+fn second_of(octets: &[u8; 8]) -> Option<u128>
     ensures value { result ≡ second_of octets.now }
     ensures within { IfSome result (λ second. second < 86_400 * days_before 10_000) }
 {
     let bits = BigEndian::read_u64(octets);
-    let decimal = decimal_of_double(bits % 0x8000_0000_0000_0000)?;
-    whole_second(bits >= 0x8000_0000_0000_0000, decimal)
-}
-
-// Like [`second_of`], given the sign of the date and its magnitude in decimal.
-fn whole_second(negative: bool, decimal: Decimal) -> Option<u64>
-    ensures value { result ≡ (if (decimal.digits == 1) && (decimal.numerator % 10 == 0)
-        then second_at negative (decimal.numerator / 10) else None) }
-    ensures within { IfSome result (λ second. second < 86_400 * days_before 10_000) }
-{
-    if decimal.digits == 1 && decimal.numerator % 10 == 0 {
-        second_at(negative, decimal.numerator / 10)
-    } else {
-        None
+    let decimal = decimal_of(DOUBLE, bits % DOUBLE.sign)?;
+    if decimal.digits != 1 || decimal.numerator % 10 != 0 {
+        return None;
     }
+    second_at(bits >= DOUBLE.sign, decimal.numerator / 10)
 }
 
 // Returns the number of seconds from 0001-01-01T00:00:00Z to the date that is this many seconds
 // before 2001 if `negative`, and else after its start. `None` outside the years 1 to 9999.
-fn second_at(negative: bool, seconds: u128) -> Option<u64>
+fn second_at(negative: bool, seconds: u128) -> Option<u128>
+    requires { seconds ≤ 2 ^ 127 }
     ensures value { result ≡ second_at negative seconds }
     ensures within { IfSome result (λ second. second < 86_400 * days_before 10_000) }
 {
-    if seconds > u128::from(UNTIL_10000) {
-        return None;
-    }
-    let seconds = seconds as u64;
     if negative {
         return UNTIL_2001.checked_sub(seconds);
     }
@@ -90,7 +77,7 @@ fn second_at(negative: bool, seconds: u128) -> Option<u64>
 
 // Appends date and time of this second after 0001-01-01T00:00:00Z.
 #[tactic(auto, unfolding(crate::specs::Dates::printed_moment))]
-fn put_moment(out: &mut Vec<u8>, second: u64) -> Result<(), AllocError>
+fn put_moment(out: &mut Vec<u8>, second: u128) -> Result<(), AllocError>
     requires { second < 86_400 * days_before 10_000 }
     ensures { OnOk result (out.new.items ≡ out.old.items ++ printed_moment second) }
 {
@@ -102,19 +89,26 @@ fn put_moment(out: &mut Vec<u8>, second: u64) -> Result<(), AllocError>
 
 // Appends the date of the day, which is counted from 0001-01-01 as day 0.
 #[tactic(auto, unfolding(crate::specs::Dates::printed_day))]
-fn put_day(out: &mut Vec<u8>, day: u64) -> Result<(), AllocError>
+fn put_day(out: &mut Vec<u8>, day: u128) -> Result<(), AllocError>
     requires { day < days_before 10_000 }
     ensures { OnOk result (out.new.items ≡ out.old.items ++ printed_day day) }
 {
     let year = year_of(day);
-    let century = year / 100;
-    let DayOfMonth { month, day } = day_of_month(year, day - days_before(year));
-    out.extend_from_slice(&[tens(century), ones(century), tens(year), ones(year), b'-'])?;
-    out.extend_from_slice(&[tens(month), ones(month), b'-', tens(day), ones(day)])
+    let mut left = day - days_before(year);
+    let mut month = 1;
+    while left >= days_in_month(year, month) {
+        left -= days_in_month(year, month);
+        month += 1;
+    }
+    put_last_digits(out, year, 4)?;
+    out.push(b'-')?;
+    put_last_digits(out, month, 2)?;
+    out.push(b'-')?;
+    put_last_digits(out, left + 1, 2)
 }
 
 // Returns the year of the day.
-fn year_of(day: u64) -> u64
+fn year_of(day: u128) -> u128
     requires { day < days_before 10_000 }
     ensures value { result ≡ year_of day }
     ensures some { 1 ≤ result }
@@ -130,7 +124,7 @@ fn year_of(day: u64) -> u64
 }
 
 // Returns the number of days from year 1 to the start of this year.
-fn days_before(year: u64) -> u64
+fn days_before(year: u128) -> u128
     requires some { 1 ≤ year }
     requires most { year ≤ 10_000 }
     ensures { result ≡ days_before year }
@@ -139,27 +133,7 @@ fn days_before(year: u64) -> u64
     365 * years + years / 4 - years / 100 + years / 400
 }
 
-// Returns month and day of a day of the year; day 0 is 1 January.
-fn day_of_month(year: u64, day: u64) -> DayOfMonth
-    requires some { 1 ≤ year }
-    requires most { year ≤ 9_999 }
-    requires within { day < days_of_months year 12 }
-    ensures month { result.month ≡ month_of year day }
-    ensures day { result.day ≡ day - days_of_months year (month_of year day - 1) + 1 }
-{
-    let mut month = 1;
-    let mut left = day;
-    while left >= days_in_month(year, month) {
-        left -= days_in_month(year, month);
-        month += 1;
-    }
-    DayOfMonth {
-        month,
-        day: left + 1,
-    }
-}
-
-fn days_in_month(year: u64, month: u64) -> u64
+fn days_in_month(year: u128, month: u128) -> u128
     requires some { 1 ≤ year }
     requires most { year ≤ 9_999 }
     ensures { result ≡ days_in_month year month }
@@ -173,19 +147,12 @@ fn days_in_month(year: u64, month: u64) -> u64
 
 // Appends the time of day.
 #[tactic(auto, unfolding(crate::specs::Dates::printed_time))]
-fn put_time(out: &mut Vec<u8>, second: u64) -> Result<(), AllocError>
-    requires { second < 86_400 }
+fn put_time(out: &mut Vec<u8>, second: u128) -> Result<(), AllocError>
     ensures { OnOk result (out.new.items ≡ out.old.items ++ printed_time second) }
 {
-    let (hour, minute, second) = (second / 3600, second / 60 % 60, second % 60);
-    out.extend_from_slice(&[
-        tens(hour),
-        ones(hour),
-        b':',
-        tens(minute),
-        ones(minute),
-        b':',
-        tens(second),
-        ones(second),
-    ])
+    put_last_digits(out, second / 3600, 2)?;
+    out.push(b':')?;
+    put_last_digits(out, second / 60 % 60, 2)?;
+    out.push(b':')?;
+    put_last_digits(out, second % 60, 2)
 }

@@ -12,9 +12,6 @@ use plist_value::TextRef;
 use plist_write::{BufferedSink, WriteFault};
 use std::alloc::AllocError;
 
-// Two spaces for each of 32 levels.
-static BLANKS: [u8; 64] = [b' '; 64];
-
 // Writes what precedes a value of a dictionary.
 pub(crate) fn begin_pair<W: Sink>(
     key: &TextRef,
@@ -76,5 +73,5 @@ fn print_key<W: Sink>(key: &TextRef, out: &mut BufferedSink<W>) -> Result<(), Wr
 pub(crate) fn put_indent(out: &mut Vec<u8>, level: u64) -> Result<(), AllocError>
     ensures { OnOk result (out.new.items ≡ out.old.items ++ indent level) }
 {
-    out.extend_from_slice(&BLANKS[..2 * level.min(32) as usize])
+    out.resize(out.len() + 2 * level.min(32) as usize, b' ')
 }

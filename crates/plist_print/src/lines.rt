@@ -9,7 +9,8 @@ ghost use Rattle.plist_print.specs.Shown.{is_short};
 
 use crate::data::print_data;
 use crate::dates::put_date;
-use crate::reals::{put_double, put_single};
+use crate::numbers::{DOUBLE, SINGLE};
+use crate::reals::put_real;
 use crate::strings::put_some;
 use itoa::Buffer;
 use plist_devices::Sink;
@@ -64,10 +65,10 @@ fn put_short(out: &mut Vec<u8>, scalar: &ScalarRef) -> Result<(), AllocError>
         ScalarRef::Flag(true) => out.extend_from_slice(b"true"),
         ScalarRef::Flag(false) => out.extend_from_slice(b"false"),
         ScalarRef::Real4(octets) => {
-            put_single(out, octets)?;
+            put_real(out, SINGLE, octets)?;
             Ok(out.push(b'f')?)
         }
-        ScalarRef::Real8(octets) => put_double(out, octets),
+        ScalarRef::Real8(octets) => put_real(out, DOUBLE, octets),
         ScalarRef::Moment(octets) => {
             out.extend_from_slice(b"date ")?;
             put_date(out, octets)

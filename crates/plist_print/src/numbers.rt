@@ -1,5 +1,5 @@
-//! The numbers from which a real or a date is printed.
-ghost use Rattle.std.specs.Prelude.{◌≡◌, ◌<◌, ◌≤◌, ◌^◌};
+//! The numbers by which reals are printed.
+ghost use Rattle.std.specs.Prelude.{◌≤◌};
 
 // A decimal: its numerator, and the number of digits after the decimal point.
 #[derive(Clone, Copy)]
@@ -9,27 +9,35 @@ pub(crate) struct Decimal {
     ghost few: { digits ≤ 21 },
 }
 
-// A real, its neighbours and 1, each as a multiple of the same number. In this unit 1 is 2 to the
-// power of `shift`.
+// A format: the number of bytes, the sign bit, the bits of the least normal real and those of
+// infinity. 1 is 2^`one` times the least real above 0. Reals with an exponent below `to` can have
+// decimals.
 #[derive(Clone, Copy)]
-pub(crate) struct Neighbours {
-    pub(crate) below: u64,
-    pub(crate) here: u64,
-    pub(crate) above: u64,
-    pub(crate) unit: u128,
-    pub(crate) shift: u32,
-    ghost power: { unit ≡ 2 ^ shift },
-    ghost shift_small: { shift ≤ 126 },
-    ghost some: { 0 < unit },
-    ghost unit_small: { unit ≤ 2 ^ 126 },
-    ghost here_small: { here ≤ 2 ^ 54 },
-    ghost above_small: { above ≤ 2 ^ 55 },
-    ghost below_small: { below ≤ 2 ^ 54 },
+pub(crate) struct Format {
+    pub(crate) octets: usize,
+    pub(crate) sign: u64,
+    pub(crate) hidden: u64,
+    pub(crate) infinite: u64,
+    pub(crate) one: u64,
+    pub(crate) to: u64,
 }
 
-// Month and day of the month, both counted from 1.
-#[derive(Clone, Copy)]
-pub(crate) struct DayOfMonth {
-    pub(crate) month: u64,
-    pub(crate) day: u64,
-}
+// Four bytes.
+pub(crate) const SINGLE: Format = Format {
+    octets: 4,
+    sign: 0x8000_0000,
+    hidden: 0x80_0000,
+    infinite: 0x7f80_0000,
+    one: 149,
+    to: 152,
+};
+
+// Eight bytes.
+pub(crate) const DOUBLE: Format = Format {
+    octets: 8,
+    sign: 0x8000_0000_0000_0000,
+    hidden: 0x10_0000_0000_0000,
+    infinite: 0x7ff0_0000_0000_0000,
+    one: 1074,
+    to: 1077,
+};

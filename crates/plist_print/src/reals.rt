@@ -1,271 +1,94 @@
 //! Prints reals.
-ghost use Rattle.std.specs.Prelude.{◌≡◌, ◌+◌, ◌-◌, ◌*◌, ◌^◌, ◌<◌, ◌≤◌, ◌++◌, ◌==◌, ◌&&◌};
-ghost use Rattle.std.specs.Prelude.{IsFalse, OnOk, None, Some};
-ghost use Rattle.std.specs.Prelude.{codes, if◌then◌else◌, nat_le, nat_lt};
+ghost use Rattle.std.specs.Prelude.{◌≡◌, ◌+◌, ◌<◌, ◌≤◌, ◌^◌, ◌++◌, OnOk, length};
 ghost use Rattle.std.specs.Option.{option_map};
 ghost use Rattle.plist_print.specs.Units.{printed_data};
-ghost use Rattle.plist_print.specs.Reals.{single, double, nearest, reads_as, shortest, decimal_of};
-ghost use Rattle.plist_print.specs.Reals.{printed_finite, printed_real};
-ghost use Rattle.plist_print.specs.Shown.{IsUnread, decimal_in, halved, scaled_of};
+ghost use Rattle.plist_print.specs.Reals.{shortest, decimal_of, printed_real};
+ghost use Rattle.plist_print.specs.Shown.{Fits, decimal_in, placed, tried};
 
-use crate::decimals::{power_of_ten, put_decimal};
-use crate::numbers::{Decimal, Neighbours};
+use crate::decimals::put_decimal;
+use crate::numbers::{Decimal, Format};
 use byteorder::{BigEndian, ByteOrder};
 use plist_value::put_digits;
 use std::alloc::AllocError;
 
-// Returns the decimal with the fewest digits after the decimal point that reads as the real, with
-// at most 21.
-fn shortest(real: &Neighbours) -> Option<Decimal>
-    ensures { option_map decimal_in result ≡ shortest (scaled_of real.now) 21 1 }
+// Returns the decimal with the fewest digits after the decimal point that reads as the real `here`,
+// with at most 21. The next real is `here + 2`, and 1 is `unit`.
+fn shortest(below: u128, here: u128, unit: u128) -> Option<Decimal>
+    requires below { below ≤ here }
+    requires here { here ≤ 2 ^ 54 }
+    requires some { 0 < unit }
+    requires unit { unit ≤ 2 ^ 126 }
+    ensures { option_map decimal_in result ≡ shortest (placed below here unit) 21 1 }
 {
-    for digits in first_digits(real)..22 {
-        match numerator_at(real, power_of_ten(digits)) {
-            Some(numerator) => return Some(Decimal { numerator, digits }),
-            None => {}
+    for digits in 1..22 {
+        if let Some(numerator) = numerator_at(below, here, unit, 10_u128.pow(digits)) {
+            return Some(Decimal { numerator, digits });
         }
     }
     None
 }
 
-// Returns the number of digits after the decimal point to begin with. No decimal with fewer digits
-// reads as the real.
-fn first_digits(real: &Neighbours) -> u32
-    ensures some { 1 ≤ result }
-    ensures few { result ≤ 21 }
-    ensures same { shortest (scaled_of real.now) (22 - result) result
-        ≡ shortest (scaled_of real.now) 21 1 }
+// Returns the numerator over `over` that is nearest to the real, if it reads as the real.
+fn numerator_at(below: u128, here: u128, unit: u128, over: u128) -> Option<u128>
+    requires below { below ≤ here }
+    requires here { here ≤ 2 ^ 54 }
+    requires some { 0 < unit }
+    requires unit { unit ≤ 2 ^ 126 }
+    requires over { over ≤ 10 ^ 21 }
+    ensures { result ≡ tried (placed below here unit) over }
 {
-    if real.here.trailing_zeros() >= real.shift {
-        return 1;
-    }
-    let likely = likely_digits(real.shift);
-    if !can_read(real, power_of_ten(likely)) {
-        return likely + 1;
-    }
-    first_within(real, likely)
-}
-
-// Returns an estimate of the number of digits. Most reals of this shift take one or two digits
-// more, unless they are rounded from short decimals.
-fn likely_digits(shift: u32) -> u32
-    requires { shift ≤ 126 }
-    ensures some { 1 ≤ result }
-    ensures few { result ≤ 20 }
-{
-    (shift * 77 / 256).clamp(2, 21) - 1
-}
-
-// Like [`first_digits`], by binary search up to `enough` digits, which must be enough. Trying each
-// number of digits in turn would take up to twice as long.
-fn first_within(real: &Neighbours, enough: u32) -> u32
-    requires some { 1 ≤ enough }
-    requires few { enough ≤ 21 }
-    ensures some { 1 ≤ result }
-    ensures few { result ≤ 21 }
-    ensures same { shortest (scaled_of real.now) (22 - result) result
-        ≡ shortest (scaled_of real.now) 21 1 }
-{
-    let mut least = 1;
-    let mut most = enough;
-    while least < most {
-        let middle = (least + most) / 2;
-        if can_read(real, power_of_ten(middle)) {
-            most = middle;
-        } else {
-            least = middle + 1;
-        }
-    }
-    least
-}
-
-// Returns whether a numerator over `over` can read as the real. If `false`, no numerator does, and
-// none over a smaller power of ten does either.
-fn can_read(real: &Neighbours, over: u128) -> bool
-    requires { over ≤ 10 ^ 21 }
-    ensures { IsFalse result → IsUnread (scaled_of real.now) over }
-{
-    let last = product(real.here + real.above, over).saturating_sub(1) >> (real.shift + 1);
-    product(real.below + real.here, over) <= last * (2 * real.unit)
-}
-
-// Returns the numerator nearest to the real, if it reads as the real.
-fn numerator_at(real: &Neighbours, over: u128) -> Option<u128>
-    requires { over ≤ 10 ^ 21 }
-    ensures { result ≡ (if reads_as (scaled_of real.now) over (nearest (scaled_of real.now) over)
-        then Some (nearest (scaled_of real.now) over) else None) }
-{
-    let total = 2 * product(real.here, over) + real.unit;
-    let numerator = total >> (real.shift + 1);
-    let middle = numerator * (2 * real.unit);
-    let low = product(real.below + real.here, over);
-    let high = product(real.here + real.above, over);
-    if is_between(low, middle, high) {
+    let numerator = (2 * (here * over) + unit) / (2 * unit);
+    let middle = 2 * (numerator * unit);
+    if (below + here) * over <= middle && middle < (here + (here + 2)) * over {
         Some(numerator)
     } else {
         None
     }
 }
 
-fn product(value: u64, over: u128) -> u128
-    requires value { value ≤ 2 ^ 56 }
-    requires over { over ≤ 10 ^ 21 }
-    ensures value { result ≡ value * over }
-    ensures small { result ≤ 2 ^ 56 * 10 ^ 21 }
-{
-    u128::from(value) * over
-}
-
-fn is_between(low: u128, middle: u128, high: u128) -> bool
-    ensures { result ≡ (nat_le low middle && nat_lt middle high) }
-{
-    low <= middle && middle < high
-}
-
-// Returns a real from its digits and its exponent, with its neighbours, as multiples of half the
-// distance to the next real.
-fn placed(hidden: u64, fraction: u64, shift: u32) -> Neighbours
-    requires hidden { hidden ≤ 2 ^ 52 }
-    requires least { 0 < hidden }
-    requires fraction { fraction < hidden }
-    requires shift { shift ≤ 126 }
-    ensures { scaled_of result ≡ halved hidden fraction shift }
-{
-    let here = 2 * (hidden + fraction);
-    Neighbours {
-        below: below(here, fraction),
-        here,
-        above: here + 2,
-        unit: power_of_two(shift),
-        shift,
-    }
-}
-
-// Returns the next real below. `fraction` is the real's digits after the first; if it is 0, the
-// distance is only half as large.
-fn below(here: u64, fraction: u64) -> u64
-    requires { 2 ≤ here }
-    ensures value { result ≡ (if nat_lt 0 fraction then here - 2 else here - 1) }
-    ensures small { result ≤ here }
-{
-    if fraction > 0 { here - 2 } else { here - 1 }
-}
-
-fn power_of_two(shift: u32) -> u128
-    requires { shift ≤ 126 }
-    ensures value { result ≡ 2 ^ shift }
-    ensures some { 0 < result }
-    ensures small { result ≤ 2 ^ 126 }
-{
-    1 << shift
-}
-
-fn zero() -> Decimal
-    ensures { decimal_in result ≡ (0, 1) }
-{
-    Decimal {
-        numerator: 0,
-        digits: 1,
-    }
-}
-
-// Returns the decimal of a real of eight bytes, without its sign.
-pub(crate) fn decimal_of_double(bits: u64) -> Option<Decimal>
-    ensures { option_map decimal_in result ≡ decimal_of double bits }
+// Returns the decimal of the real with these bits, which include no sign.
+pub(crate) fn decimal_of(format: Format, bits: u64) -> Option<Decimal>
+    requires { Fits format }
+    ensures { option_map decimal_in result ≡ decimal_of format bits }
 {
     if bits == 0 {
-        return Some(zero());
+        return Some(Decimal {
+            numerator: 0,
+            digits: 1,
+        });
     }
-    let exponent = bits / 0x10_0000_0000_0000;
-    if exponent < 950 {
+    let exponent = bits / format.hidden;
+    if exponent < format.one - 124 || exponent >= format.to {
         return None;
     }
-    if exponent > 1076 {
-        return None;
-    }
-    let fraction = bits % 0x10_0000_0000_0000;
-    let shift = 1076 - exponent as u32;
-    shortest(&placed(0x10_0000_0000_0000, fraction, shift))
+    let fraction = u128::from(bits % format.hidden);
+    let here = 2 * (u128::from(format.hidden) + fraction);
+    // The next real below is at half the distance if the fraction is 0.
+    let below = here - 1 - fraction.min(1);
+    shortest(below, here, 1 << (format.to - 1 - exponent))
 }
 
-// Returns the decimal of a real of four bytes, without its sign.
-fn decimal_of_single(bits: u32) -> Option<Decimal>
-    ensures { option_map decimal_in result ≡ decimal_of single bits }
+// Appends the real with these bytes to `out`.
+pub(crate) fn put_real(out: &mut Vec<u8>, format: Format, octets: &[u8]) -> Result<(), AllocError>
+    requires fits { Fits format }
+    requires long { length octets.now ≡ format.octets }
+    ensures { OnOk result (out.new.items ≡ out.old.items ++ printed_real format octets.now) }
 {
-    if bits == 0 {
-        return Some(zero());
-    }
-    let exponent = bits / 0x80_0000;
-    if exponent < 54 {
-        return None;
-    }
-    if exponent > 151 {
-        return None;
-    }
-    let fraction = (bits % 0x80_0000) as u64;
-    let shift = 151 - exponent;
-    shortest(&placed(0x80_0000, fraction, shift))
-}
-
-// Appends a real of eight bytes to `out`.
-pub(crate) fn put_double(out: &mut Vec<u8>, octets: &[u8; 8]) -> Result<(), AllocError>
-    ensures { OnOk result (out.new.items ≡ out.old.items ++ printed_real double octets.now) }
-{
-    let bits = BigEndian::read_u64(octets);
-    if bits >= 0x8000_0000_0000_0000 {
+    let bits = BigEndian::read_uint(octets, format.octets);
+    if bits >= format.sign {
         out.push(b'-')?;
     }
-    let size = bits % 0x8000_0000_0000_0000;
-    put_size(
-        out,
-        octets,
-        size,
-        0x7ff0_0000_0000_0000,
-        decimal_of_double(size),
-    )
-}
-
-// Appends a real of four bytes to `out`.
-pub(crate) fn put_single(out: &mut Vec<u8>, octets: &[u8; 4]) -> Result<(), AllocError>
-    ensures { OnOk result (out.new.items ≡ out.old.items ++ printed_real single octets.now) }
-{
-    let bits = BigEndian::read_u32(octets);
-    if bits >= 0x8000_0000 {
-        out.push(b'-')?;
-    }
-    let size = bits % 0x8000_0000;
-    put_size(
-        out,
-        octets,
-        u64::from(size),
-        0x7f80_0000,
-        decimal_of_single(size),
-    )
-}
-
-// Appends a real without its sign. `bits` are its bits, and `infinite` those of infinity.
-fn put_size(
-    out: &mut Vec<u8>,
-    octets: &[u8],
-    bits: u64,
-    infinite: u64,
-    decimal: Option<Decimal>,
-) -> Result<(), AllocError>
-    ensures { OnOk result (out.new.items ≡ out.old.items
-        ++ (if nat_lt bits infinite then printed_finite octets.now (option_map decimal_in decimal)
-        else (if bits == infinite then codes "infinity"
-        else codes "nan " ++ printed_data octets.now))) }
-{
-    if bits < infinite {
-        return match decimal {
-            Some(decimal) => put_decimal(out, decimal),
-            None => put_octets(out, b"real ", octets),
-        };
-    }
-    if bits == infinite {
+    let size = bits % format.sign;
+    if size == format.infinite {
         return out.extend_from_slice(b"infinity");
     }
-    put_octets(out, b"nan ", octets)
+    if size > format.infinite {
+        return put_octets(out, b"nan ", octets);
+    }
+    match decimal_of(format, size) {
+        Some(decimal) => put_decimal(out, decimal),
+        None => put_octets(out, b"real ", octets),
+    }
 }
 
 // Appends the word and then the bytes.

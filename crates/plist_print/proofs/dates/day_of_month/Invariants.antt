@@ -1,9 +1,0 @@
-use Rattle.std.proofs.Common.{◌≡◌, ◌+◌, ◌-◌, ◌≤◌}
-use Rattle.plist_print.specs.Dates.{days_of_months}
-use Rattle.plist_print.proofs.dates.day_of_month.Given as goal
-
-abbrev pub invariant-loop-left : goal.invariant-loop-left
-invariant-loop-left l = record { some : 1 ≤ l.month; most : l.month ≤ 12; behind : days_of_months l.year (l.month - 1) + l.left ≡ l.day }
-
-abbrev pub decreases-loop-left : goal.decreases-loop-left
-decreases-loop-left l = 12 - l.month
