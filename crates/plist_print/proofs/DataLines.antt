@@ -2,12 +2,11 @@
 use Rattle.std.proofs.Common.{◌≡◌, ℕ, suc, ◌+◌, ◌-◌, ◌*◌, ◌/◌, ◌<◌, ◌≤◌, min, List, ◌++◌, length, zero, [], ◌∷◌, take, drop, replicate, refl, sym, ap, ◌∙◌, arith, inl, inr, append_assoc, length-append, length-drop}
 use Rattle.std.specs.Prelude.{codes, flat_map, nat_le, if◌then◌else◌}
 use Rattle.std.specs.Simd.{first_chunks}
-use Rattle.std.proofs.lemmas.Bool.{cases_lt, cond_both}
+use Rattle.std.proofs.lemmas.Bool.{cases_lt}
 use Rattle.std.proofs.lemmas.List.{take_all, drop_all}
 use Rattle.plist_value.specs.Plist.{bytes}
 use Rattle.plist_value.specs.Digits.{two_digits}
 use Rattle.plist_write.specs.BufferedSink.{PutsPiece}
-use Rattle.plist_print.specs.Units.{printed_data}
 use Rattle.plist_print.specs.Printed.{indent, enclosed, octet_lines, printed_line}
 use Rattle.plist_print.proofs.Compared.{le-tells, le-denied}
 
@@ -75,15 +74,11 @@ puts-line blanks old new xs front left some is rest put = record {
 pub if-told : (xs ys : List ℕ) (a b : ℕ) → a ≤ b → (if nat_le a b then xs else ys) ≡ xs
 if-told xs ys a b h = rw (le-tells a b h) refl
 
-pub short-some : (level : ℕ) (xs : List ℕ) → 0 < length (printed_line level (bytes xs))
-short-some level xs =
-    cond_both (nat_le (length xs) 32) (printed_data xs ++ codes "\n") (enclosed level 60 62 (octet_lines (indent (suc level)) xs)) (λ octets. 0 < length octets) (λ _. omega arith) (λ _. omega arith)
-
 pub if-denied : (xs ys : List ℕ) (a b : ℕ) → b < a → (if nat_le a b then xs else ys) ≡ ys
 if-denied xs ys a b h = rw (le-denied a b h) refl
 
 -- data of more than 32 bytes is printed in brackets, on separate lines
-pub bytes-enclosed : (level : ℕ) (xs : List ℕ) → 32 < length xs → enclosed level 60 62 (octet_lines (indent (min level 32 + 1)) xs) ≡ printed_line level (bytes xs)
-bytes-enclosed level xs long =
-    let same : min (min level 32 + 1) 32 ≡ min (suc level) 32 = omega arith in
+pub bytes-enclosed : (level above : ℕ) (xs : List ℕ) → above ≡ min level 32 → 32 < length xs → enclosed level 60 62 (octet_lines (indent (above + 1)) xs) ≡ printed_line level (bytes xs)
+bytes-enclosed level above xs is long =
+    let same : min (above + 1) 32 ≡ min (suc level) 32 = omega arith in
     ap (λ n. enclosed level 60 62 (octet_lines (replicate (2 * n) 32) xs)) same ∙ sym (if-denied _ _ (length xs) 32 long)

@@ -194,50 +194,15 @@ shaped f xs bits format octets = elim (cases_Bool (nat_lt bits f.infinite)) [
   ]
 ]
 
-abbrev numerator : Shape → ℕ
-numerator (as_decimal n k) = n
-numerator (as_octets xs) = 0
-numerator endless = 0
-numerator (no_number xs) = 0
-
-abbrev places : Shape → ℕ
-places (as_decimal n k) = k
-places (as_octets xs) = 0
-places endless = 0
-places (no_number xs) = 0
-
-abbrev octets_in : Shape → List ℕ
-octets_in (as_decimal n k) = []
-octets_in (as_octets xs) = xs
-octets_in endless = []
-octets_in (no_number xs) = xs
-
-abbrev rank : Shape → ℕ
-rank (as_decimal n k) = 0
-rank (as_octets xs) = 1
-rank endless = 2
-rank (no_number xs) = 3
-
 same-bits : (f : Format) (xs ys : List ℕ) (a b : ℕ) (s t : Shape) → 0 < f.hidden → (xs ≡ ys → a ≡ b) → s ≡ t → Sized f xs a s → Sized f ys b t → a ≡ b
 same-bits f xs ys a b _ _ pos h e (finite n k reads) (finite m j also) =
-    let same_n : n ≡ m = ap numerator e in
-    let same_k : k ≡ j = ap places e in
+    let same_n : n ≡ m = cc in
+    let same_k : k ≡ j = cc in
     one-real f a b (10 ^ j) m pos (subst (λ (i : ℕ). reads_as (scaled_in f a) (10 ^ i) m ≡ true) same_k (subst (λ (i : ℕ). reads_as (scaled_in f a) (10 ^ k) i ≡ true) same_n reads)) also
-same-bits f xs ys a b _ _ pos h e far far = h (ap octets_in e)
+same-bits f xs ys a b _ _ pos h e far far = h cc
 same-bits f xs ys a b _ _ pos h e (infinite is) (infinite was) = is ∙ sym was
-same-bits f xs ys a b _ _ pos h e none none = h (ap octets_in e)
-same-bits f xs ys a b _ _ pos h e (finite n k reads) far = absurd (let x : 0 ≡ 1 = ap rank e in omega arith)
-same-bits f xs ys a b _ _ pos h e (finite n k reads) (infinite was) = absurd (let x : 0 ≡ 2 = ap rank e in omega arith)
-same-bits f xs ys a b _ _ pos h e (finite n k reads) none = absurd (let x : 0 ≡ 3 = ap rank e in omega arith)
-same-bits f xs ys a b _ _ pos h e far (finite m j also) = absurd (let x : 1 ≡ 0 = ap rank e in omega arith)
-same-bits f xs ys a b _ _ pos h e far (infinite was) = absurd (let x : 1 ≡ 2 = ap rank e in omega arith)
-same-bits f xs ys a b _ _ pos h e far none = absurd (let x : 1 ≡ 3 = ap rank e in omega arith)
-same-bits f xs ys a b _ _ pos h e (infinite is) (finite m j also) = absurd (let x : 2 ≡ 0 = ap rank e in omega arith)
-same-bits f xs ys a b _ _ pos h e (infinite is) far = absurd (let x : 2 ≡ 1 = ap rank e in omega arith)
-same-bits f xs ys a b _ _ pos h e (infinite is) none = absurd (let x : 2 ≡ 3 = ap rank e in omega arith)
-same-bits f xs ys a b _ _ pos h e none (finite m j also) = absurd (let x : 3 ≡ 0 = ap rank e in omega arith)
-same-bits f xs ys a b _ _ pos h e none far = absurd (let x : 3 ≡ 1 = ap rank e in omega arith)
-same-bits f xs ys a b _ _ pos h e none (infinite was) = absurd (let x : 3 ≡ 2 = ap rank e in omega arith)
+same-bits f xs ys a b _ _ pos h e none none = h cc
+same-bits f xs ys a b _ _ pos h e _ _ = absurd cc
 
 -- if printed reals are equal up to what ends their digits, whatever their formats, then what
 -- follows is equal

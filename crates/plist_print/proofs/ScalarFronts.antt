@@ -147,12 +147,7 @@ no-long : (a : Scalar) (r y : List ℕ) → IsScalar a → printed_scalar a ++ (
 no-long (bytes []) r y h same = unlike 62 10 refl (ap (λ l. head_of (tail_of l)) same)
 no-long (bytes (x ∷ xs)) r y h same =
     let b = h 0 in digit-no_end 10 (x / 16) (omega arith) (omega arith) (ap (λ l. head_of (tail_of l)) same)
-no-long (text units) r y h same = no-line (text units) r y h same (λ e. omega arith)
-no-long (whole z) r y h same = no-line (whole z) r y h same (λ e. omega arith)
-no-long (flag b) r y h same = no-line (flag b) r y h same (λ e. omega arith)
-no-long (real4 xs) r y h same = no-line (real4 xs) r y h same (λ e. omega arith)
-no-long (real8 xs) r y h same = no-line (real8 xs) r y h same (λ e. omega arith)
-no-long (moment xs) r y h same = no-line (moment xs) r y h same (λ e. omega arith)
+no-long a r y h same = no-line a r y h same (λ e. omega arith)
 
 -- a scalar is printed in one of two ways
 data Line (level : ℕ) : Scalar → Type 0 where
@@ -160,16 +155,11 @@ data Line (level : ℕ) : Scalar → Type 0 where
   long : (xs : List ℕ) → printed_line level (bytes xs) ≡ enclosed level 60 62 (octet_lines (indent (suc level)) xs) → Line level (bytes xs)
 
 line-of : (level : ℕ) (s : Scalar) → Line level s
-line-of level (text units) = short (text units) refl
-line-of level (whole z) = short (whole z) refl
-line-of level (flag b) = short (flag b) refl
-line-of level (real4 xs) = short (real4 xs) refl
-line-of level (real8 xs) = short (real8 xs) refl
-line-of level (moment xs) = short (moment xs) refl
 line-of level (bytes xs) = elim (cases_lt 32 (length xs)) [
   | inl more ↦ long xs (if-denied _ _ (length xs) 32 more)
   | inr few ↦ short (bytes xs) (if-told _ _ (length xs) 32 few)
 ]
+line-of level s = short s refl
 
 shortened : (level : ℕ) (s : Scalar) (r : List ℕ) → printed_line level s ≡ printed_scalar s ++ codes "\n" → printed_line level s ++ r ≡ printed_scalar s ++ (10 ∷ r)
 shortened level s r is = ap (λ l. l ++ r) is ∙ append_assoc (printed_scalar s) (codes "\n") r

@@ -1,6 +1,6 @@
 -- What the types of the code represent.
 use Rattle.std.specs.Prelude.{◌≡◌, ℕ, ◌+◌, ◌^◌, ◌≤◌, Bool, true, false, Option, Some, None, if◌then◌else◌}
-use Rattle.plist_value.specs.Plist.{Scalar, text, bytes}
+use Rattle.plist_value.specs.Plist.{Scalar, text}
 use Rattle.plist_print.specs.Reals.{Scaled, nearest, reads_as}
 use Rattle.plist_print.specs.declared.numbers.Decimal.{Decimal}
 use Rattle.plist_print.specs.declared.numbers.Format.{Format}
@@ -27,8 +27,7 @@ placed below here unit = record { below = below; here = here; above = here + 2; 
 abbrev pub tried : Scaled → ℕ → Option ℕ
 tried x over = if reads_as x over (nearest x over) then Some (nearest x over) else None
 
--- neither a string nor data
+-- no string
 abbrev pub is_short : Scalar → Bool
 is_short (text units) = false
-is_short (bytes xs) = false
 is_short _ = true

@@ -3,14 +3,14 @@ ghost use Rattle.std.specs.Prelude.{◌≡◌, ◌++◌, codes, true, OnOk};
 ghost use Rattle.plist_value.specs.Scalars.{content_of};
 ghost use Rattle.plist_value.specs.Texts.{units_of};
 ghost use Rattle.plist_write.specs.BufferedSink.{Emits, sink_state};
-ghost use Rattle.plist_print.specs.Units.{printed_text, printed_units};
+ghost use Rattle.plist_print.specs.Units.{printed_text};
 ghost use Rattle.plist_print.specs.Printed.{printed_line, printed_scalar};
 ghost use Rattle.plist_print.specs.Shown.{is_short};
 
-use crate::data::print_data;
+use crate::data::{LINE, print_data};
 use crate::dates::put_date;
 use crate::numbers::{DOUBLE, SINGLE};
-use crate::reals::put_real;
+use crate::reals::{put_octets, put_real};
 use crate::strings::put_some;
 use itoa::Buffer;
 use plist_devices::Sink;
@@ -34,13 +34,13 @@ pub(crate) fn print_scalar<W: Sink>(
         (sink_state W.Sink out.old) (sink_state W.Sink out.new) result }
 {
     match scalar {
-        ScalarRef::Text(text) => print_text_line(text, out),
-        ScalarRef::Bytes(octets) => print_data(octets, level, out),
+        ScalarRef::Text(text) => print_text(text, b"\n", out),
+        ScalarRef::Bytes(octets) if octets.len() > LINE => print_data(octets, level, out),
         _ => print_short(scalar, out),
     }
 }
 
-// Writes the line of a scalar that is neither a string nor data.
+// Writes a scalar on one line, if it is no string.
 fn print_short<W: Sink>(scalar: &ScalarRef, out: &mut BufferedSink<W>) -> Result<(), WriteFault>
     requires short { is_short (content_of scalar.now) ≡ true }
     ensures emits { Emits (printed_scalar (content_of scalar.now) ++ codes "\n")
@@ -51,7 +51,7 @@ fn print_short<W: Sink>(scalar: &ScalarRef, out: &mut BufferedSink<W>) -> Result
     out.put(b"\n")
 }
 
-// Appends a scalar that is neither a string nor data.
+// Appends a scalar that is no string.
 fn put_short(out: &mut Vec<u8>, scalar: &ScalarRef) -> Result<(), AllocError>
     requires { is_short (content_of scalar.now) ≡ true }
     ensures { OnOk result (out.new.items
@@ -73,40 +73,25 @@ fn put_short(out: &mut Vec<u8>, scalar: &ScalarRef) -> Result<(), AllocError>
             out.extend_from_slice(b"date ")?;
             put_date(out, octets)
         }
-        ScalarRef::Text(_) | ScalarRef::Bytes(_) => unreachable!(),
+        ScalarRef::Bytes(octets) => put_octets(out, b"", octets),
+        ScalarRef::Text(_) => unreachable!(),
     }
 }
 
-// Writes the line of a string.
-fn print_text_line<W: Sink>(text: &TextRef, out: &mut BufferedSink<W>) -> Result<(), WriteFault>
-    ensures emits { Emits (printed_text (units_of text.now) ++ codes "\n")
-        (sink_state W.Sink out.old) (sink_state W.Sink out.new) result }
-{
-    print_text(text, out)?;
-    out.put(b"\n")
-}
-
-// Writes the string in quotes.
+// Writes the string in quotes, and then the bytes behind it.
 //
 // # Errors
 //
 // Fails like [`print_scalar`].
 pub(crate) fn print_text<W: Sink>(
     text: &TextRef,
+    behind: &[u8],
     out: &mut BufferedSink<W>,
 ) -> Result<(), WriteFault>
-    ensures emits { Emits (printed_text (units_of text.now))
+    ensures emits { Emits (printed_text (units_of text.now) ++ behind.now)
         (sink_state W.Sink out.old) (sink_state W.Sink out.new) result }
 {
     out.put(b"\"")?;
-    print_units(text, out)
-}
-
-// Writes the units, and the quote after them.
-fn print_units<W: Sink>(text: &TextRef, out: &mut BufferedSink<W>) -> Result<(), WriteFault>
-    ensures emits { Emits (printed_units (units_of text.now) ++ codes "\"")
-        (sink_state W.Sink out.old) (sink_state W.Sink out.new) result }
-{
     let mut index = 0;
     while index < text.len() {
         let put = put_some(out.waiting, text, index);
@@ -114,5 +99,6 @@ fn print_units<W: Sink>(text: &TextRef, out: &mut BufferedSink<W>) -> Result<(),
         out.flush_if_full()?;
         index = next;
     }
-    out.put(b"\"")
+    out.put(b"\"")?;
+    out.put(behind)
 }

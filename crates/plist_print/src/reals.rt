@@ -92,7 +92,7 @@ pub(crate) fn put_real(out: &mut Vec<u8>, format: Format, octets: &[u8]) -> Resu
 }
 
 // Appends the word and then the bytes.
-fn put_octets(out: &mut Vec<u8>, word: &[u8], octets: &[u8]) -> Result<(), AllocError>
+pub(crate) fn put_octets(out: &mut Vec<u8>, word: &[u8], octets: &[u8]) -> Result<(), AllocError>
     ensures { OnOk result (out.new.items ≡ out.old.items ++ word.now ++ printed_data octets.now) }
 {
     out.extend_from_slice(word)?;

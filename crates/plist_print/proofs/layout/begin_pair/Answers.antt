@@ -9,5 +9,5 @@ use Rattle.plist_print.proofs.layout.begin_pair.Goals as goal
 
 pub returns : goal.returns
 returns g c = record {
-  emits = Emits_then (indent c.args.level) (printed_text (units_of c.args.key.now) ++ codes " => ") (sink_state g.W.Sink c.args.out.now) (sink_state g.W.Sink c.begin_line.new.out) (sink_state g.W.Sink c.print_key.new.out) _ c.print_key.result c.in_ok-begin_line.ensures.emits c.print_key.ensures.emits;
+  emits = Emits_then (indent c.args.level) (printed_text (units_of c.args.key.now) ++ codes " => ") (sink_state g.W.Sink c.args.out.now) (sink_state g.W.Sink c.begin_line.new.out) (sink_state g.W.Sink c.print_text.new.out) _ c.print_text.result c.in_ok-begin_line.ensures.emits c.print_text.ensures.emits;
 }
