@@ -53,16 +53,14 @@ module _ (last most each : ℕ) (is : each ≡ 70 + 4 * most) (within : (level :
     value-long level (list (item v vs)) h valid =
         let inside = items-long (suc level) (item v vs) (omega (arith, h)) valid in
         let few = blanks level (omega (arith, h)) in
-        let lines = printed_items (suc level) (item v vs) in
-        let outer = length-append lines (indent level ++ (93 ∷ 10 ∷ [])) in
+        let outer = length-append (printed_items (suc level) (item v vs)) (indent level ++ (93 ∷ 10 ∷ [])) in
         let inner = length-append (indent level) (93 ∷ 10 ∷ []) in
         let times = mul-add each 1 (nodes_of_items (item v vs)) in
         omega (arith, is, inside, few, outer, inner, times)
     value-long level (table (pair key v ps)) h valid =
         let inside = pairs-long (suc level) (pair key v ps) (omega (arith, h)) valid in
         let few = blanks level (omega (arith, h)) in
-        let lines = printed_pairs (suc level) (pair key v ps) in
-        let outer = length-append lines (indent level ++ (125 ∷ 10 ∷ [])) in
+        let outer = length-append (printed_pairs (suc level) (pair key v ps)) (indent level ++ (125 ∷ 10 ∷ [])) in
         let inner = length-append (indent level) (125 ∷ 10 ∷ []) in
         let times = mul-add each 1 (nodes_of_pairs (pair key v ps)) in
         omega (arith, is, inside, few, outer, inner, times)
@@ -74,10 +72,8 @@ module _ (last most each : ℕ) (is : each ≡ 70 + 4 * most) (within : (level :
         let one = value-long level v (omega (arith, h)) valid.0 in
         let others = items-long level vs (omega (arith, h)) valid.1 in
         let few = blanks level (omega (arith, h)) in
-        let outer = length-append (indent level) (printed_at level v ++ printed_items level vs) in
-        let inner = length-append (printed_at level v) (printed_items level vs) in
         let times = mul-add each (nodes v) (nodes_of_items vs) in
-        omega (arith, one, others, few, outer, inner, times)
+        simp length-append (omega (arith, one, others, few, times))
 
     pairs-long : (level : ℕ) (ps : Pairs) → level + depth_of_pairs ps ≤ last → ArePairs ps → length (printed_pairs level ps) ≤ 5 * payload_of_pairs ps + each * nodes_of_pairs ps
     pairs-long level no_pairs h valid = omega arith

@@ -3,7 +3,7 @@ use Rattle.std.proofs.Common.{◌≡◌, ℕ, suc, ◌+◌, ◌-◌, ◌*◌, �
 use Rattle.std.specs.Prelude.{codes, flat_map, nat_le, if◌then◌else◌}
 use Rattle.std.specs.Simd.{first_chunks}
 use Rattle.std.proofs.lemmas.Bool.{cases_lt}
-use Rattle.std.proofs.lemmas.List.{take_all, drop_all}
+use Rattle.std.proofs.lemmas.List.{take_min, drop_min}
 use Rattle.plist_value.specs.Plist.{bytes}
 use Rattle.plist_value.specs.Digits.{two_digits}
 use Rattle.plist_write.specs.BufferedSink.{PutsPiece}
@@ -43,32 +43,12 @@ lines-some blanks xs some =
     let ended = length-append (flat_map two_digits (take 32 xs)) (codes "\n") in
     omega (arith, whole, line, ended)
 
-take-least : (xs : List ℕ) → take (min (length xs) 32) xs ≡ take 32 xs
-take-least xs = elim (cases_lt 32 (length xs)) [
-  | inl long ↦ (let is : min (length xs) 32 ≡ 32 = omega arith in ap (λ n. take n xs) is)
-  | inr short ↦ (
-      let is : min (length xs) 32 ≡ length xs = omega arith in
-      ap (λ n. take n xs) is ∙ take_all (length xs) xs (omega arith) ∙ sym (take_all 32 xs short)
-      )
-]
-
-drop-least : (xs : List ℕ) → drop (min (length xs) 32) xs ≡ drop 32 xs
-drop-least xs = elim (cases_lt 32 (length xs)) [
-  | inl long ↦ (let is : min (length xs) 32 ≡ 32 = omega arith in ap (λ n. drop n xs) is)
-  | inr short ↦ (
-      let is : min (length xs) 32 ≡ length xs = omega arith in
-      ap (λ n. drop n xs) is ∙ drop_all (length xs) xs (omega arith) ∙ sym (drop_all 32 xs short)
-      )
-]
-
 -- the line of the first bytes was appended
-pub puts-line : (blanks old new xs front left : List ℕ) → 0 < length xs → front ≡ take (min (length xs) 32) xs → left ≡ drop (min (length xs) 32) xs → new ≡ old ++ data_line blanks front → PutsPiece old new (octet_lines blanks xs) (octet_lines blanks left)
+pub puts-line : (blanks old new xs front left : List ℕ) → 0 < length xs → front ≡ take (min 32 (length xs)) xs → left ≡ drop (min 32 (length xs)) xs → new ≡ old ++ data_line blanks front → PutsPiece old new (octet_lines blanks xs) (octet_lines blanks left)
 puts-line blanks old new xs front left some is rest put = record {
   piece = data_line blanks front;
   put = put;
-  split =
-      lines-first blanks xs some ∙ ap (λ t. data_line blanks t ++ octet_lines blanks (drop 32 xs)) (sym (is ∙ take-least xs))
-      ∙ ap (λ t. data_line blanks front ++ octet_lines blanks t) (sym (rest ∙ drop-least xs));
+  split = rw (is, take_min, rest, drop_min) (lines-first blanks xs some);
 }
 
 pub if-told : (xs ys : List ℕ) (a b : ℕ) → a ≤ b → (if nat_le a b then xs else ys) ≡ xs

@@ -61,51 +61,23 @@ real-long f xs format short =
     let bits = big_number f.octets xs in
     let sign = sign-long (nat_le f.sign bits) in
     let size = size-long f xs (bits % f.sign) format short in
-    let all = length-append (sign_text (nat_le f.sign bits)) (printed_size f xs (bits % f.sign)) in
-    omega (arith, sign, size, all)
+    simp length-append (omega (arith, sign, size))
 
 day-long : (day : ℕ) → length (printed_day day) ≡ 10
 unfolding printed_day
-day-long day =
-    let year = year_of day in
-    let left = day - days_before year in
-    let month = month_of year left in
-    let last = left - days_of_months year (month - 1) + 1 in
-    let first = last-long 4 year in
-    let second = last-long 2 month in
-    let third = last-long 2 last in
-    let outer = length-append (last_digits 4 year) (45 ∷ (last_digits 2 month ++ (45 ∷ last_digits 2 last))) in
-    let inner = length-append (last_digits 2 month) (45 ∷ last_digits 2 last) in
-    omega (arith, first, second, third, outer, inner)
+day-long day = simp (length-append, last-long) refl
 
 time-long : (second : ℕ) → length (printed_time second) ≡ 8
 unfolding printed_time
-time-long second =
-    let seconds = last_digits 2 (second % 60) in
-    let minutes = last_digits 2 (second / 60 % 60) in
-    let first = last-long 2 (second / 3600) in
-    let next = last-long 2 (second / 60 % 60) in
-    let last = last-long 2 (second % 60) in
-    let outer = length-append (last_digits 2 (second / 3600)) (58 ∷ (minutes ++ (58 ∷ seconds))) in
-    let inner = length-append minutes (58 ∷ seconds) in
-    omega (arith, first, next, last, outer, inner)
+time-long second = simp (length-append, last-long) refl
 
 moment-long : (second : ℕ) → length (printed_moment second) ≡ 20
 unfolding printed_moment
-moment-long second =
-    let time = printed_time (second % 86400) in
-    let first = day-long (second / 86400) in
-    let next = time-long (second % 86400) in
-    let outer = length-append (printed_day (second / 86400)) (84 ∷ (time ++ codes "Z")) in
-    let inner = length-append time (codes "Z") in
-    omega (arith, first, next, outer, inner)
+moment-long second = simp (length-append, day-long, time-long) refl
 
 brackets-long : (moment : Option ℕ) → length (in_brackets moment) ≤ 23
 brackets-long None = omega arith
-brackets-long (Some second) =
-    let moment = moment-long second in
-    let all = length-append (printed_moment second) (codes ")") in
-    omega (arith, moment, all)
+brackets-long (Some second) = simp (length-append, moment-long) (omega arith)
 
 pub date-long : (xs : List ℕ) → length xs ≤ 8 → length (printed_date xs) ≤ 64
 date-long xs short =

@@ -2,8 +2,7 @@
 use Rattle.std.specs.Prelude.{ℕ, List, [], ◌++◌, codes}
 use Rattle.plist_write.specs.declared.notation.Mark.{Mark}
 use Rattle.plist_write.specs.declared.notation.Mark.TheVariants.{EmptyList, ListStart, ListEnd}
-use Rattle.plist_write.specs.declared.notation.Mark.TheVariants.{ItemEnd, EmptyTable, TableStart}
-use Rattle.plist_write.specs.declared.notation.Mark.TheVariants.{TableEnd, PairEnd, TextEnd}
+use Rattle.plist_write.specs.declared.notation.Mark.TheVariants.{EmptyTable, TableStart, TableEnd}
 use Rattle.plist_write.specs.Notation.{Parts}
 use Rattle.plist_print.specs.Units.{printed_text}
 use Rattle.plist_print.specs.Printed.{indent, printed_line}
@@ -16,12 +15,10 @@ abbrev pub printed_mark : Mark → List ℕ
 printed_mark EmptyList = codes "[]\n"
 printed_mark ListStart = codes "[\n"
 printed_mark ListEnd = codes "]\n"
-printed_mark ItemEnd = []
 printed_mark EmptyTable = codes "{}\n"
 printed_mark TableStart = codes "{\n"
 printed_mark TableEnd = codes "}\n"
-printed_mark PairEnd = []
-printed_mark TextEnd = []
+printed_mark _ = []
 
 abbrev pub printed_parts : Parts
 printed_parts = record {

@@ -1,5 +1,6 @@
 -- What the types of the code represent.
-use Rattle.std.specs.Prelude.{◌≡◌, ℕ, ◌+◌, ◌^◌, ◌≤◌, Bool, true, false, Option, Some, None, if◌then◌else◌}
+use Rattle.std.specs.Prelude.{◌≡◌, ℕ, ◌+◌, ◌^◌, ◌≤◌, Bool, true, false, Option, Some, None}
+use Rattle.std.specs.Prelude.{if◌then◌else◌}
 use Rattle.plist_value.specs.Plist.{Scalar, text}
 use Rattle.plist_print.specs.Reals.{Scaled, nearest, reads_as}
 use Rattle.plist_print.specs.declared.numbers.Decimal.{Decimal}

@@ -41,7 +41,7 @@ fn print_lines<W: Sink>(
 {
     let mut left = octets;
     while !left.is_empty() {
-        let (line, behind) = left.split_at(left.len().min(LINE));
+        let (line, behind) = left.split_at(LINE.min(left.len()));
         let put = put_line(out.waiting, level, line);
         out.grown(put)?;
         out.flush_if_full()?;

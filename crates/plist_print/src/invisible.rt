@@ -12,11 +12,9 @@ pub(crate) fn visible_pair(high: u16, low: u16) -> Option<char>
     ensures { result ≡ (if is_visible_pair high low then Some (surrogate_pair_char high low)
         else None) }
 {
-    if !is_high(high) || !is_low(low) {
+    let (0xd800..=0xdbff, 0xdc00..=0xdfff) = (high, low) else {
         return None;
-    }
-    prove!(high >= 0xd800 && high < 0xdc00);
-    prove!(low >= 0xdc00 && low < 0xe000);
+    };
     let code = 0x1_0000 + (u32::from(high) - 0xd800) * 0x400 + (u32::from(low) - 0xdc00);
     let character = char::from_u32(code).unwrap();
     if is_invisible(character) {
@@ -35,18 +33,6 @@ pub(crate) fn visible_unit(unit: u16) -> Option<char>
         return None;
     }
     Some(character)
-}
-
-fn is_high(unit: u16) -> bool
-    ensures { result ≡ is_high_surrogate unit }
-{
-    unit >= 0xd800 && unit < 0xdc00
-}
-
-fn is_low(unit: u16) -> bool
-    ensures { result ≡ is_low_surrogate unit }
-{
-    unit >= 0xdc00 && unit < 0xe000
 }
 
 // Returns whether the character is invisible, or changes how others are displayed.
