@@ -1,5 +1,5 @@
 -- The maximum length of a printed real, date or integer.
-use Rattle.std.proofs.Common.{◌≡◌, ℕ, suc, ◌+◌, ◌-◌, ◌*◌, ◌/◌, ◌%◌, ◌^◌, ◌<◌, ◌≤◌, Bool, true, false, List, ◌∷◌, ◌++◌, length, Option, Some, None, refl, ap, ◌∙◌, arith, length-append}
+use Rattle.std.proofs.Common.{◌≡◌, ℕ, suc, ◌+◌, ◌-◌, ◌*◌, ◌/◌, ◌%◌, ◌^◌, ◌<◌, ◌≤◌, Bool, true, false, List, ◌∷◌, length, Option, Some, None, refl, ap, ◌∙◌, arith, length-append}
 use Rattle.std.specs.Prelude.{codes, decimal, ◌==◌, nat_le, nat_lt, ℤ, pos, negsuc}
 use Rattle.std.specs.Fmt.{signed_decimal, sign_text}
 use Rattle.std.proofs.lemmas.Fmt.{length-decimal-le_wide}
@@ -11,7 +11,7 @@ use Rattle.plist_value.specs.Plist.{IsWhole}
 use Rattle.plist_print.specs.Units.{printed_data}
 use Rattle.plist_print.specs.declared.numbers.Format.{Format}
 use Rattle.plist_print.specs.Reals.{double, decimal_of, last_digits, printed_decimal, printed_finite, printed_size, printed_real}
-use Rattle.plist_print.specs.Dates.{year_of, month_of, days_before, days_of_months, printed_day, printed_time, printed_moment, second_of, in_brackets, printed_date}
+use Rattle.plist_print.specs.Dates.{printed_day, printed_time, printed_moment, second_of, in_brackets, printed_date}
 use Rattle.plist_print.proofs.Neighbours.{decimal-is, decimal-short, IsFormat, double-format}
 use Rattle.plist_print.proofs.Deciding.{some-power}
 use Rattle.plist_print.proofs.RealFronts.{last-long}

@@ -1,12 +1,8 @@
 //! How dates are printed: the seconds since 2001 and, in parentheses, date and time in UTC.
-ghost use Rattle.std.specs.Prelude.{◌≡◌, ◌+◌, ◌-◌, ◌*◌, ◌/◌, ◌<◌, ◌≤◌, ◌++◌, ◌%◌, ◌^◌};
-ghost use Rattle.std.specs.Prelude.{IfSome, OnOk, None, if◌then◌else◌};
-ghost use Rattle.std.specs.Option.{option_map};
-ghost use Rattle.plist_print.specs.Dates.{days_in_month, days_of_months, days_before};
-ghost use Rattle.plist_print.specs.Dates.{year_of, month_of, printed_day};
+ghost use Rattle.std.specs.Prelude.{◌≡◌, ◌+◌, ◌*◌, ◌<◌, ◌≤◌, ◌^◌, ◌++◌, IfSome, OnOk};
+ghost use Rattle.plist_print.specs.Dates.{days_in_month, days_before, year_of, printed_day};
 ghost use Rattle.plist_print.specs.Dates.{printed_time, printed_moment, second_at};
 ghost use Rattle.plist_print.specs.Dates.{second_of, in_brackets, printed_date};
-ghost use Rattle.plist_print.specs.Shown.{decimal_in};
 
 use crate::decimals::put_last_digits;
 use crate::numbers::DOUBLE;

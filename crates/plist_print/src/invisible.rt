@@ -1,6 +1,6 @@
 //! Invisible characters, according to Unicode 18.0.
-ghost use Rattle.std.specs.Prelude.{◌≡◌, ◌<◌, ◌≤◌, Some, None, if◌then◌else◌};
-ghost use Rattle.std.specs.Char.Utf16.{is_high_surrogate, is_low_surrogate, surrogate_pair_char};
+ghost use Rattle.std.specs.Prelude.{◌≡◌, Some, None, if◌then◌else◌};
+ghost use Rattle.std.specs.Char.Utf16.{surrogate_pair_char};
 ghost use Rattle.ucd_category.specs.GeneralCategory.{general_category};
 ghost use Rattle.plist_print.specs.Units.{is_blank, is_visible_pair, is_invisible};
 

@@ -1,12 +1,9 @@
 //! Prints strings.
-ghost use Rattle.std.specs.Prelude.{◌≡◌, ◌+◌, ◌*◌, ◌<◌, ◌≤◌, ◌∷◌, ◌++◌, ◌/◌, ◌%◌, ◌==◌};
-ghost use Rattle.std.specs.Prelude.{ℕ, List, codes};
-ghost use Rattle.std.specs.Prelude.{false, IsTrue, IfOk, OnOk, length, take, drop};
+ghost use Rattle.std.specs.Prelude.{◌≡◌, ◌<◌, ◌≤◌, ◌++◌, IfOk, OnOk, length, drop};
 ghost use Rattle.std.specs.Char.{encode_utf8};
 ghost use Rattle.plist_value.specs.Texts.{units_of};
 ghost use Rattle.plist_write.specs.BufferedSink.{PutsPiece};
-ghost use Rattle.plist_print.specs.Units.{is_ascii_text, printed_text, printed_unit};
-ghost use Rattle.plist_print.specs.Units.{printed_units};
+ghost use Rattle.plist_print.specs.Units.{is_ascii_text, printed_unit, printed_units};
 
 use crate::invisible::{visible_pair, visible_unit};
 use plist_value::{TextRef, literal_run, put_quoted_unit};
