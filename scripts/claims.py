@@ -114,11 +114,12 @@ def items(crate: str, path: Path, src: Path) -> list[Item]:
 
 
 class Tree:
-    """What the crates have, but those of tests."""
+    """What the crates have, but those of tests that define nothing."""
 
     def __init__(self, top: Path) -> None:
         uses = declared(top)
-        crates = [crate for crate in uses if crate not in TESTS]
+        defines = {path.parent.name for path in (top / "crates").glob("*/specs")}
+        crates = [crate for crate in uses if crate not in TESTS or crate in defines]
         files = [
             (crate, path, top / "crates" / crate / "src")
             for crate in crates

@@ -1,6 +1,7 @@
 -- The exit status is 4 only if a device failed.
-use Rattle.std.proofs.Common.{arith, inl, inr, sym, Err, List, [], ◌∷◌, None, Ok, Option, Result, Some, ℕ, ◌∙◌, ◌≡◌, ◌⊎◌}
+use Rattle.std.proofs.Common.{arith, inl, inr, refl, sym, Err, List, [], ◌∷◌, None, Ok, Option, Result, Some, ℕ, ◌∙◌, ◌≡◌, ◌⊎◌}
 use Rattle.std.specs.Prelude.{◌≢◌, ◌<◌, ◌≤◌, Bool, true, false, max}
+use Rattle.std.specs.Bool.{◌==◌}
 use Rattle.std.proofs.lemmas.Bool.{cases_lt}
 use Rattle.clap.specs.Words.{Text}
 use Rattle.clap.specs.declared.error.ErrorKind.{ErrorKind}
@@ -20,7 +21,7 @@ use Rattle.plist_canon.specs.declared.checking.Verdict.TheVariants as verdict
 use Rattle.plist_forms.specs.Fault.{check_fault_for, code_of, status_for, write_fault_for}
 use Rattle.plist_forms.specs.Refusals.{FaultStands}
 use Rattle.plist_forms.specs.declared.faults.Fault.{Fault}
-use Rattle.plist_forms.specs.declared.faults.Fault.TheVariants.{Binary, Text as OfText, ReadFailed, InputTooLarge, OutOfMemory}
+use Rattle.plist_forms.specs.declared.faults.Fault.TheVariants.{Binary, Text as OfText, ReadFailed, WriteFailed, InputTooLarge, OutOfMemory}
 use Rattle.plist_forms.specs.declared.pairs.PairFault.{PairFault}
 use Rattle.plist_forms.specs.declared.pairs.PairFault.TheVariants.{First, Second}
 use Rattle.plist_forms.specs.Pair.{IsRefusedPair}
@@ -36,41 +37,29 @@ use Rattle.plist_convert.specs.Answer.{IsCheckAnswerOf, IsLintAnswer, IsOutputRe
 use Rattle.plist_convert.specs.Ending.{Ends, HaveFailed, Prints, no_memory}
 use Rattle.plist_convert.specs.Explaining.{Explains, said_of_kind, status_of_kind}
 use Rattle.plist_convert.specs.Program.{DeviceFailed, IsAskedRun, IsRun}
-use Rattle.plist_convert.specs.Runs.{EndsSending, IsAnswered, IsConvertRun, IsExplainRun, IsFileRun, IsFiltered, IsFilterRun, IsInputFault, IsPrintRun, IsRunOfEach, IsSameRun, IsUnread, IsWanting, refusal_between, standard}
+use Rattle.plist_convert.specs.Runs.{EndsSending, IsAnswered, IsConvertRun, IsExplainRun, IsFileRun, IsFilterRun, IsInputFault, IsPrintRun, IsRunOfEach, IsSameRun, IsSentOut, IsUnread, IsWanting, refusal_between, standard}
 use Rattle.plist_convert.specs.State.{Ending, Input, State}
 use Rattle.plist_convert.specs.Verdicts.{verdict_status_for}
 use Rattle.plist_convert.proofs.Each.{Results, failed_or_not}
 
--- numbers that are not 4
-no_0 : ◌≢◌ {A = ℕ} 0 4
-no_0 e = omega (arith, e)
-
-no_1 : ◌≢◌ {A = ℕ} 1 4
-no_1 e = omega (arith, e)
-
-no_2 : ◌≢◌ {A = ℕ} 2 4
-no_2 e = omega (arith, e)
-
-no_3 : ◌≢◌ {A = ℕ} 3 4
-no_3 e = omega (arith, e)
-
-no_5 : ◌≢◌ {A = ℕ} 5 4
-no_5 e = omega (arith, e)
+-- a number that is not 4
+no_four : {n : ℕ} → (n == 4) ≡ false → n ≢ 4
+no_four {n = n} other four = absurd (let no : (4 == 4) ≡ false = rw four at other in cc)
 
 -- no refusal of the bytes has the status of a failed device
 
 binary_quiet : (fault : BinaryFault) → status_for (fault_code fault) ≢ 4
-binary_quiet binary.OutOfMemory = no_5
-binary_quiet _ = no_2
+binary_quiet binary.OutOfMemory = no_four refl
+binary_quiet _ = no_four refl
 
 text_quiet : (fault : TextFault) → status_for (of_text.code_of fault) ≢ 4
-text_quiet text.OutOfMemory = no_5
-text_quiet _ = no_2
+text_quiet text.OutOfMemory = no_four refl
+text_quiet _ = no_four refl
 
 stands_quiet : (octets : List ℕ) (fault : Fault) → FaultStands octets fault → status_for (code_of fault) ≢ 4
 stands_quiet octets (Binary fault) stands = binary_quiet fault
 stands_quiet octets (OfText fault) stands = text_quiet fault
-stands_quiet octets (OutOfMemory sent) stands = no_5
+stands_quiet octets (OutOfMemory sent) stands = no_four refl
 stands_quiet octets _ stands = absurd stands
 
 -- no result for the bytes has the status of a failed device
@@ -82,24 +71,24 @@ refused_quiet : (path octets : List ℕ) (s : Said) → IsRefusedAnswer path oct
 refused_quiet path octets s answer = says_quiet s _ answer.says (stands_quiet octets answer.fault answer.refused.stands)
 
 verdict_quiet : (v : Verdict) → verdict_status_for v ≢ 4
-verdict_quiet verdict.Canonical = no_0
-verdict_quiet (verdict.Broken rule i) = no_1
+verdict_quiet verdict.Canonical = no_four refl
+verdict_quiet (verdict.Broken rule i) = no_four refl
 
 check_fault_quiet : (fault : CheckFault) → status_for (code_of (check_fault_for fault)) ≢ 4
-check_fault_quiet check.OutOfMemory = no_5
-check_fault_quiet _ = no_2
+check_fault_quiet check.OutOfMemory = no_four refl
+check_fault_quiet _ = no_four refl
 
 check_quiet : (several : Bool) (path octets : List ℕ) (s : Said) → IsCheckAnswerOf several path octets s → s.status ≢ 4
 check_quiet several path octets s (inl judged) = says_quiet s _ judged.says (verdict_quiet judged.verdict)
 check_quiet several path octets s (inr unchecked) = says_quiet s _ unchecked.says (check_fault_quiet unchecked.fault)
 
 lint_quiet : (path octets : List ℕ) (s : Said) → IsLintAnswer path octets s → s.status ≢ 4
-lint_quiet path octets s (inl accepted) = says_quiet s _ accepted.says no_0
+lint_quiet path octets s (inl accepted) = says_quiet s _ accepted.says (no_four refl)
 lint_quiet path octets s (inr refused) = refused_quiet path octets s refused
 
 equality_quiet : (equal : Bool) → (equality_said equal).status ≢ 4
-equality_quiet true = no_0
-equality_quiet false = no_1
+equality_quiet true = no_four refl
+equality_quiet false = no_four refl
 
 pair_quiet : (first second a b : List ℕ) (fault : PairFault) → IsRefusedPair a b fault → (pair_refusal first second fault).status ≢ 4
 pair_quiet first second a b (First fault) refused = stands_quiet a fault refused.stands
@@ -111,24 +100,24 @@ same_quiet first second a b s (inr refused) = says_quiet s _ refused.says (pair_
 
 output_quiet : (form : Form) (octets : List ℕ) (fault : Fault) → IsOutputFault form octets fault → status_for (code_of fault) ≢ 4
 output_quiet form octets fault (inl refused) = stands_quiet octets fault refused.stands
-output_quiet form octets fault (inr none) = rw none.is no_2
+output_quiet form octets fault (inr none) = rw none.is (no_four refl)
 
 output_refusal_quiet : (form : Form) (path octets : List ℕ) (s : Said) → IsOutputRefusal form path octets s → s.status ≢ 4
 output_refusal_quiet form path octets s answer = says_quiet s _ answer.says (output_quiet form octets answer.fault answer.cause)
 
 explanation_quiet : (word : List ℕ) (found : Option (List ℕ)) → (explanation_said word found).status ≢ 4
-explanation_quiet word (Some text) = no_0
-explanation_quiet word None = no_3
+explanation_quiet word (Some text) = no_four refl
+explanation_quiet word None = no_four refl
 
 explained_quiet : (what : Option (List ℕ)) → (explained_said what).status ≢ 4
 explained_quiet (Some word) = explanation_quiet word (explanation_of word)
-explained_quiet None = no_0
+explained_quiet None = no_four refl
 
 kind_quiet : (error : ErrorKind) → status_of_kind error ≢ 4
-kind_quiet kind.DisplayHelp = no_0
-kind_quiet kind.DisplayVersion = no_0
-kind_quiet kind.OutOfMemory = no_5
-kind_quiet _ = no_3
+kind_quiet kind.DisplayHelp = no_four refl
+kind_quiet kind.DisplayVersion = no_four refl
+kind_quiet kind.OutOfMemory = no_four refl
+kind_quiet _ = no_four refl
 
 -- after a printed line the status is 4 only if it is the line's own, or if printing failed
 
@@ -146,7 +135,7 @@ prints_blamed old new before after s status quiet (inr failed) four = failed_onc
 ends_blamed : (old new : Option (List ℕ)) (before after : ℕ) (s : Said) (status : ℕ) → s.status ≢ 4
     → Ends old new before after s status → status ≡ 4 → HaveFailed before after
 ends_blamed old new before after s status quiet (inl usual) four = prints_blamed old new before after s status quiet usual four
-ends_blamed old new before after s status quiet (inr memory) four = prints_blamed old new before after no_memory status no_5 memory four
+ends_blamed old new before after s status quiet (inr memory) four = prints_blamed old new before after no_memory status (no_four refl) memory four
 
 -- a device of the disk or of the output failed
 abbrev Failed : State → State → Type 0
@@ -159,8 +148,8 @@ unread_by : (path : FileName) (before after : State) (status : ℕ) (fault : Fau
     → IsUnloaded before.files path before.disk_failures after.disk_failures fault → Ending before after (refusal path fault) status
     → status ≡ 4 → Failed before after
 unread_by path before after status ReadFailed cause ends four = inl (failed_once _ _ cause.1)
-unread_by path before after status InputTooLarge cause ends four = ending_blamed before after (refusal path InputTooLarge) status no_2 ends four
-unread_by path before after status (OutOfMemory sent) cause ends four = ending_blamed before after (refusal path (OutOfMemory sent)) status no_5 ends four
+unread_by path before after status InputTooLarge cause ends four = ending_blamed before after (refusal path InputTooLarge) status (no_four refl) ends four
+unread_by path before after status (OutOfMemory sent) cause ends four = ending_blamed before after (refusal path (OutOfMemory sent)) status (no_four refl) ends four
 unread_by path before after status _ cause ends four = absurd cause
 
 unread_blamed : (path : FileName) (before after : State) (status : ℕ) → IsUnread path before after status → status ≡ 4 → Failed before after
@@ -173,7 +162,7 @@ answered_blamed Answers path before after status quiet run four =
     ending_blamed before after run.said status (quiet run.octets run.said run.answers) run.ends four
 
 wanting_blamed : (before after : State) (status : ℕ) → IsWanting before after status → status ≡ 4 → Failed before after
-wanting_blamed before after status run four = inr (prints_blamed _ _ _ _ no_memory status no_5 run.ends four)
+wanting_blamed before after status run four = inr (prints_blamed _ _ _ _ no_memory status (no_four refl) run.ends four)
 
 file_blamed : (Answers : List ℕ → Said → Type 0) (path : FileName) (before after : State) (status : ℕ)
     → ((octets : List ℕ) (s : Said) → Answers octets s → s.status ≢ 4) → IsFileRun Answers path before after status
@@ -268,7 +257,7 @@ files_blamed : (Answers : Results) (paths : List FileName) (before after : State
     → ((path octets : List ℕ) (s : Said) → Answers path octets s → s.status ≢ 4)
     → IsRunOfEach Answers paths 0 before after status → status ≡ 4 → Failed before after
 files_blamed Answers paths before after status quiet run four =
-    each_blamed Answers paths before before after 0 status quiet (λ later failed. failed) (λ four. absurd (no_0 four)) run four
+    each_blamed Answers paths before before after 0 status quiet (λ later failed. failed) (λ four. absurd (no_four {n = 0} refl four)) run four
 
 same_blamed : (first second : FileName) (before after : State) (status : ℕ) → IsSameRun first second before after status → status ≡ 4 → Failed before after
 unfolding IsSameRun
@@ -280,11 +269,11 @@ same_blamed first second before after status (inr (inr (inr wanting))) four = wa
 
 stored_by : (from to : FileName) (file : List ℕ) (before after : State) (status : ℕ) (result : Result ℕ WriteFault)
     → IsStored before.files after.files before.disk_failures after.disk_failures to file result
-    → EndsSending before.printed after.printed before.print_failures after.print_failures (λ fault. refusal_between from to (write_fault_for fault)) result status
+    → EndsSending before.printed after.printed before.print_failures after.print_failures (refusal_between from to) result status
     → status ≡ 4 → Failed before after
-stored_by from to file before after status (Ok sent) stored ends four = absurd (no_0 (sym ends.0 ∙ four))
+stored_by from to file before after status (Ok sent) stored ends four = absurd (no_four {n = 0} refl (sym ends.0 ∙ four))
 stored_by from to file before after status (Err (write.WriteFailed sent)) stored ends four = inl (failed_once _ _ stored.front.1)
-stored_by from to file before after status (Err (write.OutOfMemory sent)) stored ends four = ending_blamed before after (refusal from (OutOfMemory sent)) status no_5 ends four
+stored_by from to file before after status (Err (write.OutOfMemory sent)) stored ends four = ending_blamed before after (refusal from (OutOfMemory sent)) status (no_four refl) ends four
 
 convert_blamed : (form : Form) (from to : FileName) (before after : State) (status : ℕ) → IsConvertRun form from to before after status
     → status ≡ 4 → Failed before after
@@ -292,7 +281,7 @@ unfolding IsConvertRun
 convert_blamed form from to before after status (inl unread) four = unread_blamed from before after status unread four
 convert_blamed form from to before after status (inr (inl refused)) four = answered_blamed (IsOutputRefusal form from) from before after status (output_refusal_quiet form from) refused four
 convert_blamed form from to before after status (inr (inr run)) four =
-    stored_by from to run.file before after status run.stored.result run.stored.stored run.stored.ends four
+    stored_by from to run.file before after status run.sent run.stored run.ends four
 
 -- no arguments
 
@@ -301,62 +290,45 @@ unloaded_by : (input rest : Input) (before after : State) (status : ℕ) (fault 
 unloaded_by input rest before after status fault (inr refused) ends four =
     inr (ending_blamed before after (refusal standard fault) status (stands_quiet refused.0 fault refused.2.stands) ends four)
 unloaded_by input rest before after status ReadFailed (inl once) ends four = inl (failed_once _ _ once)
-unloaded_by input rest before after status InputTooLarge (inl load) ends four = inr (ending_blamed before after (refusal standard InputTooLarge) status no_2 ends four)
-unloaded_by input rest before after status (OutOfMemory sent) (inl load) ends four = inr (ending_blamed before after (refusal standard (OutOfMemory sent)) status no_5 ends four)
+unloaded_by input rest before after status InputTooLarge (inl load) ends four = inr (ending_blamed before after (refusal standard InputTooLarge) status (no_four refl) ends four)
+unloaded_by input rest before after status (OutOfMemory sent) (inl load) ends four = inr (ending_blamed before after (refusal standard (OutOfMemory sent)) status (no_four refl) ends four)
 unloaded_by input rest before after status _ (inl load) ends four = absurd load
-
-later : (before middle after : ℕ) → middle ≡ one_more before → before < 18446744073709551615 → (after ≡ middle) ⊎ (after ≡ one_more middle) → before < after
-later before middle after once below (inl same) = omega (arith, once, below, same)
-later before middle after once below (inr more) = omega (arith, once, below, more)
-
-latest : (before middle after : ℕ) → middle ≡ one_more before → 18446744073709551615 ≤ before → (after ≡ middle) ⊎ (after ≡ one_more middle) → 18446744073709551615 ≤ after
-latest before middle after once top (inl same) = omega (arith, once, top, same)
-latest before middle after once top (inr more) = omega (arith, once, top, more)
-
-failed_twice : (before middle after : ℕ) → middle ≡ one_more before → (after ≡ middle) ⊎ (after ≡ one_more middle) → HaveFailed before after
-failed_twice before middle after once more = elim (cases_lt before 18446744073709551615) [
-  | inl below ↦ inl (later before middle after once below more)
-  | inr top ↦ inr (latest before middle after once top more)
-]
 
 -- a failure of printing is counted, whatever happens to the line that reports it
 line_failed : (old new : Option (List ℕ)) (before middle after : ℕ) (s : Said) (status : ℕ) → middle ≡ one_more before
     → Ends old new middle after s status → HaveFailed before after
-line_failed old new before middle after s status failed (inl (inl usual)) = failed_twice before middle after failed (inl usual.2)
-line_failed old new before middle after s status failed (inl (inr unprinted)) = failed_twice before middle after failed (inr unprinted.2)
-line_failed old new before middle after s status failed (inr (inl memory)) = failed_twice before middle after failed (inl memory.2)
-line_failed old new before middle after s status failed (inr (inr unprinted)) = failed_twice before middle after failed (inr unprinted.2)
+line_failed old new before middle after s status failed ends =
+    failed_after before middle after (ends_count old new middle after s status ends) (failed_once before middle failed)
 
-sending_blamed : (line : WriteFault → Said) (file : List ℕ) (old mid new : Option (List ℕ)) (before middle after status : ℕ) (sent : Result ℕ WriteFault)
-    → ((n : ℕ) → (line (write.OutOfMemory n)).status ≢ 4) → IsWritten file old mid before middle sent
-    → EndsSending mid new middle after line sent status → status ≡ 4 → HaveFailed before after
-sending_blamed line file old mid new before middle after status (Ok n) quiet written ends four = absurd (no_0 (sym ends.0 ∙ four))
-sending_blamed line file old mid new before middle after status (Err (write.WriteFailed n)) quiet written ends four =
-    line_failed mid new before middle after (line (write.WriteFailed n)) status written.front.1 ends
-sending_blamed line file old mid new before middle after status (Err (write.OutOfMemory n)) quiet written ends four =
-    rw written.front.1 at (ends_blamed mid new middle after (line (write.OutOfMemory n)) status (quiet n) ends four)
+sending_blamed : (line : Fault → Said) (octets : List ℕ) (before after : State) (status : ℕ)
+    → ((n : ℕ) → (line (OutOfMemory n)).status ≢ 4) → IsSentOut line octets before after status → status ≡ 4
+    → HaveFailed before.print_failures after.print_failures
+sending_blamed line octets before after status quiet sends four = by sends.sent sends.written sends.ends where
+  by : (sent : Result ℕ WriteFault) → IsWritten octets before.printed sends.printed before.print_failures sends.failures sent
+      → EndsSending sends.printed after.printed sends.failures after.print_failures line sent status
+      → HaveFailed before.print_failures after.print_failures
+  by (Ok n) written ends = absurd (no_four {n = 0} refl (sym ends.0 ∙ four))
+  by (Err (write.WriteFailed n)) written ends = line_failed _ _ _ _ _ (line (WriteFailed n)) status written.front.1 ends
+  by (Err (write.OutOfMemory n)) written ends =
+      rw written.front.1 at (ends_blamed _ _ _ _ (line (OutOfMemory n)) status (quiet n) ends four)
 
 print_blamed : (path : FileName) (before after : State) (status : ℕ) → IsPrintRun path before after status → status ≡ 4 → Failed before after
 unfolding IsPrintRun
 print_blamed path before after status (inl unread) four = unread_blamed path before after status unread four
 print_blamed path before after status (inr (inl refused)) four = answered_blamed (IsRefusedAnswer path) path before after status (refused_quiet path) refused four
 print_blamed path before after status (inr (inr run)) four =
-    inr (sending_blamed (λ fault. refusal_between path standard (write_fault_for fault)) run.text before.printed run.printed after.printed before.print_failures run.failures after.print_failures status run.sent (λ n. no_5) run.written run.ends four)
+    inr (sending_blamed (refusal_between path standard) run.text before after status (λ n. no_four refl) run.sends four)
 
 explain_blamed : (what : Option (List ℕ)) (before after : State) (status : ℕ) → IsExplainRun what before after status → status ≡ 4 → Failed before after
 unfolding IsExplainRun
 explain_blamed what before after status run four = ending_blamed before after (explained_said what) status (explained_quiet what) run four
 
-filtered_blamed : (input rest : Input) (before after : State) (status : ℕ) → IsFiltered input rest before after status → status ≡ 4
-    → DeviceFailed input rest before after
-filtered_blamed input rest before after status run four =
-    inr (inr (sending_blamed (λ fault. refusal standard (write_fault_for fault)) run.file before.printed run.printed after.printed before.print_failures run.failures after.print_failures status run.sent (λ n. no_5) run.written run.ends four))
-
 filter_blamed : (input rest : Input) (before after : State) (status : ℕ) → IsFilterRun input rest before after status → status ≡ 4
     → DeviceFailed input rest before after
 unfolding IsFilterRun
 filter_blamed input rest before after status (inl run) four = unloaded_by input rest before after status run.fault run.cause run.ends four
-filter_blamed input rest before after status (inr run) four = filtered_blamed input rest before after status run four
+filter_blamed input rest before after status (inr run) four =
+    inr (inr (sending_blamed (refusal standard) run.file before after status (λ n. no_four refl) run.sends four))
 
 asked_blamed : (it : Asked) (input rest : Input) (before after : State) (status : ℕ) → IsAskedRun it input rest before after status
     → status ≡ 4 → DeviceFailed input rest before after
@@ -376,7 +348,7 @@ explains_blamed : (old new : Option (List ℕ)) (before after : ℕ) (error : Er
 explains_blamed old new before after error status (inl told) four =
     prints_blamed old new before after (said_of_kind told.text error) status (kind_quiet error) told.prints four
 explains_blamed old new before after error status (inr memory) four =
-    prints_blamed old new before after no_memory status no_5 memory four
+    prints_blamed old new before after no_memory status (no_four refl) memory four
 
 -- the exit status is 4 only if a device failed
 pub blamed : (words : List Text) (input rest : Input) (before after : State) (status : ℕ) → IsRun words input rest before after status

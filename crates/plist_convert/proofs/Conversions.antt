@@ -17,14 +17,13 @@ use Rattle.plist_convert.proofs.FilesBefore.{same_trans, stored_before}
 
 -- nothing is printed after everything was sent
 pub sent_whole : (line : Fault → Said) (sent : Result ℕ WriteFault) (n : ℕ) (printed : Option (List ℕ)) (failures : ℕ) → Ok n ≡ answer_of sent
-    → EndsSending printed printed failures failures (λ fault. line (write_fault_for fault)) sent 0
+    → EndsSending printed printed failures failures line sent 0
 sent_whole line (Ok m) n printed failures is = (refl, refl, refl)
 sent_whole line (Err fault) n printed failures is = absurd cc
 
 -- the line of the refusal is printed after only a prefix was sent
 pub sent_front : (line : Fault → Said) (sent : Result ℕ WriteFault) (fault : Fault) (old new : Option (List ℕ)) (before after status : ℕ)
-    → Err fault ≡ answer_of sent → Ends old new before after (line fault) status
-    → EndsSending old new before after (λ f. line (write_fault_for f)) sent status
+    → Err fault ≡ answer_of sent → Ends old new before after (line fault) status → EndsSending old new before after line sent status
 sent_front line (Ok m) fault old new before after status is ends = absurd cc
 sent_front line (Err f) fault old new before after status is ends =
     let same : fault ≡ write_fault_for f = cc in
@@ -34,18 +33,16 @@ sent_front line (Err f) fault old new before after status is ends =
 store_before : (form : Form) (octets : List ℕ) (from to : FileName) (before middle after : State) (status : ℕ) (result : Result ℕ Fault)
     → FileHolds before.files from octets → SameFiles before.files middle.files → middle.disk_failures ≡ before.disk_failures
     → (goes : IsOutputStored form octets middle.files after.files middle.disk_failures after.disk_failures to result)
-    → EndsSending before.printed after.printed before.print_failures after.print_failures (λ fault. refusal_between from to (write_fault_for fault)) goes.sent status
+    → EndsSending before.printed after.printed before.print_failures after.print_failures (refusal_between from to) goes.sent status
     → IsConverted form from to before after status
 store_before form octets from to before middle after status result stands kept unfailed goes ends = record {
   octets = octets;
   stands = stands;
   file = goes.output;
   of = goes.of;
-  stored = record {
-    result = goes.sent;
-    stored = stored_before before.files middle.files after.files before.disk_failures middle.disk_failures after.disk_failures to goes.output goes.sent kept unfailed goes.stored;
-    ends = ends;
-  };
+  sent = goes.sent;
+  stored = stored_before before.files middle.files after.files before.disk_failures middle.disk_failures after.disk_failures to goes.output goes.sent kept unfailed goes.stored;
+  ends = ends;
 }
 
 pub converted : (form : Form) (octets : List ℕ) (from to : FileName) (before middle after : State) (n : ℕ)

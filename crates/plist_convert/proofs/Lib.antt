@@ -13,7 +13,6 @@ pub mod WithWords
 pub mod Parsed
 pub mod CommandRows
 pub mod Stored
-pub mod Handed
 pub mod Limits
 pub mod Opened
 pub mod Created

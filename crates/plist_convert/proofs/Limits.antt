@@ -1,15 +1,14 @@
 -- What a file with a maximum size takes.
 use Rattle.std.proofs.Common.{arith, ap, refl, sym, Bool, Err, List, None, Ok, Option, Result, Some, [], ◌∷◌, ℕ, inl, inr, true, false, ◌∙◌, ◌≡◌}
-use Rattle.std.specs.Prelude.{◌≢◌, ◌<◌, ◌≤◌, ◌↔◌, IfErr, IfOk, IfSome, IsTrue, length}
+use Rattle.std.specs.Prelude.{⊤, ◌≢◌, ◌<◌, ◌≤◌, ◌↔◌, IfErr, IfOk, IfSome, IsTrue, length}
 use Rattle.std.specs.Io.KnownBytes.{Keeps}
 use Rattle.std.specs.IoError.{error_kind}
 use Rattle.std.specs.declared.io.Error.{Error}
 use Rattle.std.specs.declared.io.ErrorKind.TheVariants as kind
 use Rattle.std.proofs.lemmas.Bool.{true≢false}
 use Rattle.std.proofs.lemmas.List.{length-take-le}
-use Rattle.plist_devices.specs.Count.{one_more}
 use Rattle.plist_forms.specs.declared.faults.Fault.{Fault}
-use Rattle.plist_forms.specs.declared.faults.Fault.TheVariants.{Binary, Text, NotInOpenStep, ReadFailed, WriteFailed, InputTooLarge, OutOfMemory}
+use Rattle.plist_forms.specs.declared.faults.Fault.TheVariants.{OutOfMemory, WriteFailed}
 use Rattle.plist_forms.specs.declared.forms.Form.{Form}
 use Rattle.plist_write.specs.declared.faults.WriteFault.{WriteFault}
 use Rattle.plist_write.specs.declared.faults.WriteFault.TheVariants as write
@@ -17,8 +16,8 @@ use Rattle.plist_write.specs.Sending.{IsWritten}
 use Rattle.plist_forms.specs.Output.{IsOutput, IsOutputFault}
 use Rattle.plist_forms.specs.Sent.{answer_of}
 use Rattle.plist_forms.specs.Transfer.{Writes}
-use Rattle.plist_convert.specs.FileDisk.{IsFull, IsFullAt, told, unless_lost}
-use Rattle.plist_convert.specs.Files.{CountsFailure, FileName, Files, IsStored, SameFiles, Stores}
+use Rattle.plist_convert.specs.FileDisk.{IsFull, IsFullAt, result_of}
+use Rattle.plist_convert.specs.Files.{FileName, Files, SameFiles}
 use Rattle.plist_convert.specs.Opens.{IsFilled, IsUnwritten, IsWithin, MayEmpty, StaysWithin, held_by, is_begun}
 
 -- no refusal of the bytes is a failure of the device
@@ -40,13 +39,12 @@ module _ (form : Form) (octets : List ℕ) (limit failures : ℕ) where
       record { output = output; of = of; long = omega (arith, short, whole, went); filled = omega (arith, same, whole, went, most) }
   filled taken output most reached of n _ written is = absurd cc
 
-  full_at : (taken : List ℕ) (sent : Result ℕ Fault) → length taken ≤ limit → (0 < failures → limit ≤ length taken)
-      → Writes form octets (Some []) (Some taken) 0 failures sent → IfErr sent (IsFullAt form octets limit)
-  full_at taken (Err (WriteFailed n)) most reached (inl unsent) =
+  full_at : (taken : List ℕ) (n : ℕ) → length taken ≤ limit → (0 < failures → limit ≤ length taken)
+      → Writes form octets (Some []) (Some taken) 0 failures (Err (WriteFailed n)) → IsFull form octets limit n
+  full_at taken n most reached (inl unsent) =
       let same : unsent.fault ≡ WriteFailed n = (let is = unsent.is in cc) in
       absurd (no_device form octets n (rw same at unsent.cause))
-  full_at taken (Err (WriteFailed n)) most reached (inr goes) = filled taken goes.output most reached goes.of n goes.sent goes.written goes.is
-  full_at taken _ most reached writes = tt
+  full_at taken n most reached (inr goes) = filled taken goes.output most reached goes.of n goes.sent goes.written goes.is
 
   -- nothing is known of what was sent to a file that does not know it
   lost : (output : List ℕ) (sent : Result ℕ WriteFault) → IsWritten output (Some []) None 0 failures sent → ⊥
@@ -57,24 +55,27 @@ module _ (form : Form) (octets : List ℕ) (limit failures : ℕ) where
   lost_at sent (inl unsent) = absurd (let none = unsent.nothing in cc)
   lost_at sent (inr goes) = lost goes.output goes.sent goes.written
 
-  full_now : (now : Option (List ℕ)) (sent : Result ℕ Fault) → IsWithin limit now → (0 < failures → IsFilled limit now)
-      → Writes form octets (Some []) now 0 failures sent → IfErr sent (IsFullAt form octets limit)
-  full_now None sent within full writes = absurd (lost_at sent writes)
-  full_now (Some taken) sent within full writes = full_at taken sent within full writes
+  full_now : (now : Option (List ℕ)) (n : ℕ) → IsWithin limit now → (0 < failures → IsFilled limit now)
+      → Writes form octets (Some []) now 0 failures (Err (WriteFailed n)) → IsFull form octets limit n
+  full_now None n within full writes = absurd (lost_at (Err (WriteFailed n)) writes)
+  full_now (Some taken) n within full writes = full_at taken n within full writes
 
-  known_full : (at : Files) (sent : Result ℕ Fault) → IfErr sent (IsFullAt form octets limit)
-      → IfErr sent (λ fault. IfSome (Some at) (λ _. IsFullAt form octets limit fault))
-  known_full at (Ok n) full = tt
-  known_full at (Err fault) full = full
-
-  pub is_full : (files : Option Files) (contents : Option (Option (List ℕ))) (sent : Result ℕ Fault)
-      → IsWithin limit (held_by files contents) → (0 < failures → IsFilled limit (held_by files contents))
+  -- a store fails only if the file is full, unless memory ran out
+  pub is_full : (files : Option Files) (contents : Option (Option (List ℕ))) (sent : Result ℕ Fault) (is_kept needs_memory : Bool)
+      → (is_kept ≡ false → files ≡ None) → IsWithin limit (held_by files contents)
+      → (0 < failures → needs_memory ≡ false → IsFilled limit (held_by files contents))
       → Writes form octets (held_by files None) (held_by files contents) 0 failures sent
-      → IfErr sent (λ fault. IfSome files (λ _. IsFullAt form octets limit fault))
-  is_full None contents (Ok n) within full writes = tt
-  is_full None contents (Err fault) within full writes = tt
-  is_full (Some at) contents sent within full writes =
-      known_full at sent (full_now (held_by (Some at) contents) sent within full writes)
+      → IfErr (result_of sent is_kept needs_memory) (λ fault. IfSome files (λ _. IsFullAt form octets limit fault))
+  is_full None contents sent is_kept needs_memory unknown within full writes = untold (result_of sent is_kept needs_memory) where
+    untold : (told : Result ℕ Fault) → IfErr told (λ _. ⊤)
+    untold (Ok n) = tt
+    untold (Err fault) = tt
+  is_full (Some at) contents (Ok n) true needs_memory unknown within full writes = tt
+  is_full (Some at) contents (Ok n) false needs_memory unknown within full writes = absurd (let no = unknown refl in cc)
+  is_full (Some at) contents (Err (WriteFailed n)) is_kept true unknown within full writes = tt
+  is_full (Some at) contents (Err (WriteFailed n)) is_kept false unknown within full writes =
+      full_now (held_by (Some at) contents) n within (λ failed. full failed refl) writes
+  is_full (Some at) contents (Err _) is_kept needs_memory unknown within full writes = tt
 
   -- all of it was within the maximum size
   found_room : (taken output : List ℕ) (n : ℕ) (sent : Result ℕ WriteFault) → length taken ≤ limit
@@ -91,12 +92,18 @@ module _ (form : Form) (octets : List ℕ) (limit failures : ℕ) where
   fits_now (Some taken) n within (inl unsent) = absurd (let is = unsent.is in cc)
   fits_now (Some taken) n within (inr goes) = found_room taken goes.output n goes.sent within goes.written goes.is
 
-  pub fits : (files : Option Files) (contents : Option (Option (List ℕ))) (sent : Result ℕ Fault)
+  pub fits : (files : Option Files) (contents : Option (Option (List ℕ))) (sent : Result ℕ Fault) (is_kept needs_memory : Bool)
       → IsWithin limit (held_by files contents) → Writes form octets (held_by files None) (held_by files contents) 0 failures sent
-      → IfOk sent (λ count. IfSome files (λ _. count ≤ limit))
-  fits files contents (Err fault) within writes = tt
-  fits None contents (Ok n) within writes = tt
-  fits (Some at) contents (Ok n) within writes = fits_now (held_by (Some at) contents) n within writes
+      → IfOk (result_of sent is_kept needs_memory) (λ count. IfSome files (λ _. count ≤ limit))
+  fits None contents sent is_kept needs_memory within writes = untold (result_of sent is_kept needs_memory) where
+    untold : (told : Result ℕ Fault) → IfOk told (λ _. ⊤)
+    untold (Ok n) = tt
+    untold (Err fault) = tt
+  fits (Some at) contents (Ok n) true needs_memory within writes = fits_now (held_by (Some at) contents) n within writes
+  fits (Some at) contents (Ok n) false needs_memory within writes = tt
+  fits (Some at) contents (Err (WriteFailed n)) is_kept true within writes = tt
+  fits (Some at) contents (Err (WriteFailed n)) is_kept false within writes = tt
+  fits (Some at) contents (Err _) is_kept needs_memory within writes = tt
 
 -- no more was written than a file may have, by what is known of the files before the file was created
 pub within_before : (path : FileName) (f m : Option Files) (limit place : ℕ) (contents : Option (List ℕ)) → MayEmpty path f m → limit ≡ place
@@ -158,82 +165,8 @@ filled_after path (Some old) (Some mid) limit place (Some xs) None error may sam
 filled_after path (Some old) (Some mid) limit place (Some xs) (Some ys) error may same begun keeps unwritten other =
     rw (← same, keeps) (unwritten other)
 
--- the result of a store whose file ran out of memory
-wanted : (form : Form) (octets : List ℕ) (files rest : Option Files) (before x after : ℕ) (path : FileName) (n : ℕ)
-    → Stores form octets files rest before x path (Err (WriteFailed n)) → after ≡ before
-    → Stores form octets files rest before after path (Err (OutOfMemory n))
-wanted form octets files rest before x after path n (inl unstored) same =
-    let is : unstored.fault ≡ WriteFailed n = (let told = unstored.is in cc) in
-    absurd (no_device form octets n (rw is at unstored.cause))
-wanted form octets files rest before x after path n (inr out) same = sent out.sent out.is out.stored where
-  sent : (sent : Result ℕ WriteFault) → Err (WriteFailed n) ≡ answer_of sent → IsStored files rest before x path out.output sent
-      → Stores form octets files rest before after path (Err (OutOfMemory n))
-  sent (Ok m) is stored = absurd cc
-  sent (Err (write.OutOfMemory m)) is stored = absurd cc
-  sent (Err (write.WriteFailed m)) is stored =
-      let number : n ≡ m = cc in
-      inr (record {
-        output = out.output;
-        of = out.of;
-        sent = Err (write.OutOfMemory m);
-        is = rw number refl;
-        stored = record {
-          others = stored.others;
-          count = tt;
-          whole = tt;
-          within = stored.within;
-          front = (stored.front.0, same);
-        };
-      })
-
-pub told_stored : (form : Form) (octets : List ℕ) (files rest : Option Files) (before after : ℕ) (path : FileName) (sent : Result ℕ Fault)
-    (needs_memory : Bool) → ((x : ℕ) → CountsFailure before x sent → Stores form octets files rest before x path sent)
-    → CountsFailure before after (told needs_memory sent) → Stores form octets files rest before after path (told needs_memory sent)
-told_stored form octets files rest before after path (Err (WriteFailed n)) true stores counts =
-    wanted form octets files rest before (one_more before) after path n (stores (one_more before) refl) counts
-told_stored form octets files rest before after path sent false stores counts = stores after counts
-told_stored form octets files rest before after path _ true stores counts = stores after counts
-
-pub told_fits : (limit : ℕ) (files : Option Files) (sent : Result ℕ Fault) (needs_memory : Bool)
-    → IfOk sent (λ count. IfSome files (λ _. count ≤ limit)) → IfOk (told needs_memory sent) (λ count. IfSome files (λ _. count ≤ limit))
-told_fits limit files sent false fits = fits
-told_fits limit files (Ok n) true fits = fits
-told_fits limit files (Err (WriteFailed n)) true fits = tt
-told_fits limit files (Err _) true fits = tt
-
--- a file that may be lost when it is closed has no maximum size that is known
-pub lost_fits : (limit : ℕ) (files : Option Files) (sent : Result ℕ Fault) (is_kept : Bool)
-    → IfOk sent (λ count. IfSome files (λ _. count ≤ limit)) → IfOk (unless_lost is_kept sent) (λ count. IfSome files (λ _. count ≤ limit))
-lost_fits limit files sent true fits = fits
-lost_fits limit files (Ok n) false fits = tt
-lost_fits limit files (Err fault) false fits = tt
-
-pub lost_full : (form : Form) (octets : List ℕ) (limit : ℕ) (files : Option Files) (sent : Result ℕ Fault) (is_kept : Bool)
-    → (is_kept ≡ false → files ≡ None) → IfErr sent (λ fault. IfSome files (λ _. IsFullAt form octets limit fault))
-    → IfErr (unless_lost is_kept sent) (λ fault. IfSome files (λ _. IsFullAt form octets limit fault))
-lost_full form octets limit files sent true unknown full = full
-lost_full form octets limit files (Ok n) false unknown full = rw (unknown refl) tt
-lost_full form octets limit files (Err fault) false unknown full = full
-
-any_at : (form : Form) (octets : List ℕ) (limit : ℕ) (files : Option Files) (fault : Fault) → IsFullAt form octets limit fault
-    → IfSome files (λ _. IsFullAt form octets limit fault)
-any_at form octets limit None fault full = tt
-any_at form octets limit (Some at) fault full = full
-
-pub told_full : (form : Form) (octets : List ℕ) (limit : ℕ) (files : Option Files) (sent : Result ℕ Fault) (needs_memory : Bool)
-    → (needs_memory ≡ false → IfErr sent (λ fault. IfSome files (λ _. IsFullAt form octets limit fault)))
-    → IfErr (told needs_memory sent) (λ fault. IfSome files (λ _. IsFullAt form octets limit fault))
-told_full form octets limit files sent false full = full refl
-told_full form octets limit files (Ok n) true full = tt
-told_full form octets limit files (Err (WriteFailed n)) true full = any_at form octets limit files (OutOfMemory n) tt
-told_full form octets limit files (Err (Binary fault)) true full = any_at form octets limit files (Binary fault) tt
-told_full form octets limit files (Err (Text fault)) true full = any_at form octets limit files (Text fault) tt
-told_full form octets limit files (Err NotInOpenStep) true full = any_at form octets limit files NotInOpenStep tt
-told_full form octets limit files (Err ReadFailed) true full = any_at form octets limit files ReadFailed tt
-told_full form octets limit files (Err InputTooLarge) true full = any_at form octets limit files InputTooLarge tt
-told_full form octets limit files (Err (OutOfMemory n)) true full = any_at form octets limit files (OutOfMemory n) tt
-
--- memory ran out when the file was closed
+-- out of memory is no failure of the device
 pub unfilled : (form : Form) (octets : List ℕ) (limit : ℕ) (files : Option Files) (sent : ℕ)
     → IfSome files (λ _. IsFullAt form octets limit (OutOfMemory sent))
-unfilled form octets limit files sent = any_at form octets limit files (OutOfMemory sent) tt
+unfilled form octets limit None sent = tt
+unfilled form octets limit (Some at) sent = tt

@@ -8,8 +8,8 @@ use Rattle.plist_forms.specs.Load.{IsLoadFault, Loads}
 use Rattle.plist_forms.specs.declared.faults.Fault.{Fault}
 use Rattle.plist_forms.specs.declared.faults.Fault.TheVariants.{InputTooLarge, OutOfMemory, ReadFailed}
 use Rattle.plist_forms.specs.declared.loading.TheConstants.{MAX_INPUT}
-use Rattle.plist_convert.specs.Files.{FileName, Files, IsUnloaded}
-use Rattle.plist_convert.specs.Opens.{CountsUnread, HasFailing, IsUnfound, IsUnopened, IsUnopenedAs, ReadsAll}
+use Rattle.plist_convert.specs.Files.{CountsFailure, FileName, Files, IsUnloaded}
+use Rattle.plist_convert.specs.Opens.{HasFailing, IsUnfound, IsUnopened, IsUnopenedAs, ReadsAll}
 
 -- the opened file is too large
 large : (files : Option Files) (path : FileName) (to_come rest : Option (List ℕ)) (taken : List ℕ) → ReadsAll files path to_come
@@ -48,7 +48,7 @@ steady None failures none = tt
 steady (Some at) failures none = λ failing. let zero = none failing.0 in let some = failing.1 in omega arith
 
 pub unloaded : {T : Type 0} (files : Option Files) (path : FileName) (Failed : Type 0) (before after : ℕ) (found : Result T Fault)
-    → IfErr found (IsUnfound files path Failed) → IfSome files (λ _. Failed → ⊥) → CountsUnread before after found
+    → IfErr found (IsUnfound files path Failed) → IfSome files (λ _. Failed → ⊥) → CountsFailure before after found
     → IfErr found (IsUnloaded files path before after)
 unloaded files path Failed before after (Ok octets) cause none counts = tt
 unloaded files path Failed before after (Err ReadFailed) (inl lacks) none counts = (lacks, counts)
@@ -58,6 +58,6 @@ unloaded files path Failed before after (Err InputTooLarge) cause none counts = 
 unloaded files path Failed before after (Err (OutOfMemory sent)) cause none counts = (cause, counts)
 unloaded files path Failed before after (Err _) cause none counts = absurd cause
 
-pub loaded : {T : Type 0} (before after : ℕ) (found : Result T Fault) → CountsUnread before after found → OnOk found (after ≡ before)
+pub loaded : {T : Type 0} (before after : ℕ) (found : Result T Fault) → CountsFailure before after found → OnOk found (after ≡ before)
 loaded before after (Ok octets) counts = counts
 loaded before after (Err fault) counts = tt

@@ -24,11 +24,13 @@ printed_whole octets path before after n stands kept unfailed (inr goes) = inr (
   unfailed = unfailed;
   text = goes.text;
   of = goes.of;
-  sent = goes.sent;
-  printed = after.printed;
-  failures = after.print_failures;
-  written = goes.written;
-  ends = sent_whole (refusal_between path standard) goes.sent n after.printed after.print_failures goes.is;
+  sends = record {
+    sent = goes.sent;
+    printed = after.printed;
+    failures = after.print_failures;
+    written = goes.written;
+    ends = sent_whole (refusal_between path standard) goes.sent n after.printed after.print_failures goes.is;
+  };
 }))
 
 -- a refusal, or only a prefix was printed
@@ -59,9 +61,11 @@ unprinted octets path before after status printed failures fault stands kept unf
   unfailed = unfailed;
   text = goes.text;
   of = goes.of;
-  sent = goes.sent;
-  printed = printed;
-  failures = failures;
-  written = goes.written;
-  ends = sent_front (refusal_between path standard) goes.sent fault printed after.printed failures after.print_failures status goes.is ends;
+  sends = record {
+    sent = goes.sent;
+    printed = printed;
+    failures = failures;
+    written = goes.written;
+    ends = sent_front (refusal_between path standard) goes.sent fault printed after.printed failures after.print_failures status goes.is ends;
+  };
 }))

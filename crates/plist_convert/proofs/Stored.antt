@@ -1,144 +1,286 @@
--- The files after storing one.
-use Rattle.std.proofs.Common.{ap, arith, refl, sym, Err, List, Ok, Option, Result, Some, [], ◌∷◌, ℕ, inl, inr, ◌∙◌, ◌≡◌, ◌⊎◌}
-use Rattle.std.specs.Prelude.{◌≢◌, ◌≤◌, MatchResult, cond, false, length, option_map, take, true}
-use Rattle.std.specs.Bool.{◌==◌}
-use Rattle.std.specs.Result.{is_ok}
+-- Storing in a file that is created at its first write, and then closed.
+use Rattle.std.proofs.Common.{ap, arith, refl, sym, inl, inr, Err, List, None, Ok, Option, Result, Some, [], ◌∷◌, ◌++◌, ℕ, ◌≡◌, ◌∙◌, ◌⊎◌}
+use Rattle.std.specs.Prelude.{◌≢◌, ◌<◌, ◌≤◌, Bool, IfSome, cond, false, length, option_map, take, true}
+use Rattle.std.specs.Option.{ForSome}
 use Rattle.std.specs.Str.{bytes_eq}
-use Rattle.std.proofs.lemmas.Bool.{cond-false, false_from_ne_true}
-use Rattle.std.proofs.lemmas.Bool.Decides.{Decides-eqb}
+use Rattle.std.specs.Io.KnownBytes.{Appends}
 use Rattle.std.proofs.lemmas.List.{length-take-le}
 use Rattle.std.proofs.lemmas.Slice.Eq.{bytes_eq-Decides}
-use Rattle.plist_forms.specs.declared.faults.Fault.{Fault}
-use Rattle.plist_forms.specs.declared.faults.Fault.TheVariants.{Binary, Text, NotInOpenStep, ReadFailed, WriteFailed, InputTooLarge, OutOfMemory}
-use Rattle.plist_forms.specs.declared.forms.Form.{Form}
-use Rattle.plist_write.specs.declared.faults.WriteFault.{WriteFault}
-use Rattle.plist_write.specs.declared.faults.WriteFault.TheVariants as write
+use Rattle.plist_write.specs.Canonical.{canon}
 use Rattle.plist_write.specs.Sending.{IsBlamed, IsWritten, sent_of}
 use Rattle.plist_write.proofs.Going.{less_within}
-use Rattle.plist_forms.specs.Output.{IsOutputFault}
+use Rattle.plist_write.specs.declared.faults.WriteFault.{WriteFault}
+use Rattle.plist_write.specs.declared.faults.WriteFault.TheVariants as write
+use Rattle.plist_forms.specs.Fault.{write_fault_for}
+use Rattle.plist_forms.specs.Output.{IsOutput, IsOutputFault}
 use Rattle.plist_forms.specs.Sent.{answer_of}
 use Rattle.plist_forms.specs.Transfer.{Writes}
-use Rattle.plist_convert.specs.Files.{CountsFailure, FileName, Files, IsStored, SameFiles, Stores}
+use Rattle.plist_forms.specs.declared.faults.Fault.{Fault}
+use Rattle.plist_forms.specs.declared.faults.Fault.TheVariants.{OutOfMemory, ReadFailed, WriteFailed}
+use Rattle.plist_forms.specs.declared.forms.Form.{Form}
+use Rattle.plist_forms.specs.declared.forms.Form.TheVariants.{Binary1, OpenStep}
+use Rattle.plist_value.specs.Writable.{is_writable}
+use Rattle.ostep_text.specs.Written.{written}
+use Rattle.plist_convert.specs.Files.{CountsFailure, FileName, Files, HoldsFront, IsCutAt, IsStored, SameBeside, SameFiles, Stores, Turns}
+use Rattle.plist_convert.specs.FileDisk.{result_of}
+use Rattle.plist_convert.specs.Opens.{IsUntouched, MayEmpty, Settles, held_by, is_begun, taken_by, written_of}
+use Rattle.plist_convert.specs.declared.opens.Created.{Created}
+use Rattle.plist_convert.proofs.FilesBefore.{same_trans}
+use Rattle.plist_convert.proofs.Limits.{unknown_before}
 
--- the value of another key is unchanged if a map is updated at one key
-pub other_value : {X Z : Type 0} (f : X → Z) (old new : Option X) (key path other : List ℕ) (value : Option X)
-    → new ≡ cond (bytes_eq key other) value old → key ≡ path → other ≢ path → option_map f new ≡ option_map f old
-other_value f old new key path other value sets key_is differs =
-    let is_other : bytes_eq key other ≡ false = false_from_ne_true _ (λ same. differs (sym ((bytes_eq-Decides key other).0 same) ∙ key_is)) in
-    ap (option_map f) (sets ∙ cond-false _ _ _ is_other)
+-- no output is empty
+ends_some : (xs : List ℕ) (y : ℕ) → xs ++ (y ∷ []) ≢ []
+ends_some [] y none = absurd cc
+ends_some (x ∷ xs) y none = absurd cc
 
--- the path has what an empty sink took
-pub stored : (old new : Files) (before after failures : ℕ) (path : FileName) (octets taken : List ℕ) (result : Result ℕ WriteFault)
-    → IsWritten octets (Some []) (Some taken) 0 failures result → new path ≡ Some taken
-    → ((other : FileName) → other ≢ path → new other ≡ old other)
-    → MatchResult result (λ _. after ≡ before) (λ fault. IsBlamed fault before after)
-    → IsStored (Some old) (Some new) before after path octets result
-stored old new before after failures path octets taken (Ok n) written stands others counted = record {
-  others = others;
-  count = (written.count, counted);
-  whole = stands ∙ ap Some written.whole.0;
-  within = tt;
-  front = tt;
-}
-stored old new before after failures path octets taken (Err fault) written stands others counted = record {
-  others = others;
+chosen : (b : Bool) (xs ys : List ℕ) → cond b (Some xs) None ≡ Some ys → xs ≡ ys
+chosen true xs ys is = cc
+chosen false xs ys is = absurd cc
+
+output_some : (form : Form) (octets output : List ℕ) → IsOutput form octets output → output ≢ []
+unfolding canon
+output_some Binary1 octets output of none = absurd (let is : Some (canon of.value) ≡ Some [] = rw none at of.written in cc)
+output_some OpenStep octets output of none =
+    ends_some (written of.value) 10 (chosen (is_writable of.value) _ _ of.written ∙ none)
+
+output_long : (xs : List ℕ) → xs ≢ [] → 0 < length xs
+output_long [] some = absurd (some refl)
+output_long (x ∷ xs) some = omega arith
+
+-- a file that may only have been emptied is what it was or empty
+abbrev IsWasOrEmpty : Option (List ℕ) → Option (List ℕ) → Type 0
+IsWasOrEmpty old new = (new ≡ old) ⊎ (new ≡ Some [])
+
+was_or_empty : (old new : Option (List ℕ)) → (new ≢ old → new ≡ Some []) → IsWasOrEmpty old new
+was_or_empty None None may = inl refl
+was_or_empty None (Some ys) may = inr (may (λ same. absurd cc))
+was_or_empty (Some xs) None may = inr (may (λ same. absurd cc))
+was_or_empty (Some xs) (Some ys) may = decided (bytes_eq ys xs) refl where
+  decided : (b : Bool) → bytes_eq ys xs ≡ b → IsWasOrEmpty (Some xs) (Some ys)
+  decided true is = inl (ap Some ((bytes_eq-Decides ys xs).0 is))
+  decided false is = inr (may (λ same.
+      let equal : ys ≡ xs = cc in
+      let yes : bytes_eq ys xs ≡ true = (bytes_eq-Decides ys xs).1 equal in
+      absurd cc))
+
+-- at most this file is emptied, and then no file changes
+pub emptied_same : (path : FileName) (f m n : Option Files) → MayEmpty path f m → SameFiles m n → MayEmpty path f n
+emptied_same path None m n may same = tt
+emptied_same path (Some old) None n may same = absurd may
+emptied_same path (Some old) (Some mid) None may same = absurd same
+emptied_same path (Some old) (Some mid) (Some new) may same =
+    (λ differs. same path ∙ may.0 (λ is. differs (same path ∙ is)), λ other beside. same other ∙ may.1 other beside)
+
+-- the path has these bytes, or if there are none, what it had; every other file is what it was
+abbrev pub Leaves : FileName → Option (List ℕ) → Option Files → Option Files → Type 0
+Leaves path taken None after = Unit {0}
+Leaves path taken (Some old) None = ⊥
+Leaves path None (Some old) (Some new) = ⊥
+Leaves path (Some taken) (Some old) (Some new) =
+    ((new path ≡ Some taken) ⊎ ((taken ≡ []) × (new path ≡ old path)))
+    × ((other : FileName) → other ≢ path → new other ≡ old other)
+
+-- so it is if the file was closed
+settled : {W : Type 0} (writes : W → Option (List ℕ)) (path : FileName) (files middle rest : Option Files) (made : Option (Created W))
+    → ForSome made (λ file. file.path.now ≡ path) → is_begun files (option_map (written_of writes) made) ≡ true → MayEmpty path files middle
+    → Settles writes made middle rest → Leaves path (taken_by writes files made) files rest
+settled writes path None middle rest made there begun may settles = tt
+settled writes path (Some old) None rest made there begun may settles = absurd may
+settled writes path (Some old) (Some mid) None None there begun may same = absurd same
+settled writes path (Some old) (Some mid) None (Some file) there begun may puts = absurd puts
+settled writes path (Some old) (Some mid) (Some new) None there begun may same = (had (was_or_empty (old path) (mid path) may.0), λ other beside. same other ∙ may.1 other beside) where
+  had : IsWasOrEmpty (old path) (mid path) → (new path ≡ Some []) ⊎ (◌≡◌ {A = List ℕ} [] [] × (new path ≡ old path))
+  had (inl is) = inr (refl, same path ∙ is)
+  had (inr empty) = inl (same path ∙ empty)
+settled writes path (Some old) (Some mid) (Some new) (Some file) there begun may puts =
+    has (writes file.writer) begun (rw (there file refl) at puts) where
+      has : (contents : Option (List ℕ)) → is_begun (Some old) (Some contents) ≡ true
+          → (new path ≡ contents) × ((other : FileName) → other ≢ path → new other ≡ mid other) → Leaves path contents (Some old) (Some new)
+      has None begun puts = absurd (let no = begun in cc)
+      has (Some octets) begun puts = (inl puts.0, λ other beside. puts.1 other beside ∙ may.1 other beside)
+
+pub left : {W : Type 0} (writes : W → Option (List ℕ)) (path : FileName) (files middle rest : Option Files) (made : Option (Created W))
+    (is_kept : Bool) → ForSome made (λ file. file.path.now ≡ path) → is_begun files (option_map (written_of writes) made) ≡ true
+    → MayEmpty path files middle → (is_kept ≡ true → Settles writes made middle rest) → (is_kept ≡ false → middle ≡ None)
+    → Leaves path (taken_by writes files made) files rest
+left writes path files middle rest made true there begun may settles lost = settled writes path files middle rest made there begun may (settles refl)
+left writes path files middle rest made false there begun may settles lost =
+    rw (unknown_before path files middle may (lost refl)) tt
+
+-- no file changes if none is closed
+pub unsettled : {W : Type 0} (writes : W → Option (List ℕ)) (middle rest : Option Files) (made : Option (Created W)) (is_kept : Bool)
+    → (is_kept ≡ true → Settles writes made middle rest) → (is_kept ≡ false → middle ≡ None) → made ≡ None → SameFiles middle rest
+unsettled writes middle rest made true settles lost none = rw none at (settles refl)
+unsettled writes middle rest made false settles lost none = rw (lost refl) tt
+
+-- if nothing was written, the file was not created
+pub unmade : {W : Type 0} (writes : W → Option (List ℕ)) (files : Option Files) (made : Option (Created W))
+    → is_begun files (option_map (written_of writes) made) ≡ true → taken_by writes files made ≡ held_by files None → IfSome files (λ _. made ≡ None)
+unmade writes None made begun nothing = tt
+unmade writes (Some at) None begun nothing = refl
+unmade writes (Some at) (Some file) begun nothing = absurd (empty (writes file.writer) begun nothing) where
+  empty : (contents : Option (List ℕ)) → is_begun (Some at) (Some contents) ≡ true → contents ≡ Some [] → ⊥
+  empty None begun nothing = absurd (let no = begun in cc)
+  empty (Some []) begun nothing = absurd (let no = begun in cc)
+  empty (Some (x ∷ xs)) begun nothing = absurd cc
+
+-- no file changes if nothing was written and no write failed
+pub unchanged : {W : Type 0} (writes : W → Option (List ℕ)) (files middle rest : Option Files) (made : Option (Created W)) (failures : ℕ)
+    → is_begun files (option_map (written_of writes) made) ≡ true → IsUntouched made failures files middle
+    → (made ≡ None → SameFiles middle rest) → taken_by writes files made ≡ held_by files None → failures ≡ 0 → SameFiles files rest
+unchanged writes None middle rest made failures begun untouched same nothing none = tt
+unchanged writes (Some old) middle rest made failures begun untouched same nothing none =
+    let uncreated : made ≡ None = unmade writes (Some old) made begun nothing in
+    same_trans (Some old) middle rest (untouched uncreated none) (same uncreated)
+
+-- the first bytes of an output are at the path
+fronted : (path : FileName) (files rest : Option Files) (taken : Option (List ℕ)) (output : List ℕ) (n : ℕ) → n < length output
+    → Leaves path taken files rest → Appends (held_by files None) taken (take n output) → HoldsFront files rest path output n
+fronted path None rest taken output n short leaves appends = tt
+fronted path (Some old) (Some new) (Some taken) output n short (inl is, others) appends = inr (is ∙ ap Some appends)
+fronted path (Some old) (Some new) (Some taken) output n short (inr same, others) appends =
+    let none : [] ≡ take n output = sym same.0 ∙ appends in
+    inl (sym (ap length none ∙ length-take-le n output (less_within n (length output) short)), same.1)
+fronted path (Some old) (Some new) None output n short leaves appends = absurd leaves
+fronted path (Some old) None taken output n short leaves appends = absurd leaves
+
+-- all of it is
+wholly : (path : FileName) (files rest : Option Files) (taken : Option (List ℕ)) (output : List ℕ) → output ≢ [] → Leaves path taken files rest
+    → Appends (held_by files None) taken output → Turns files rest (λ old new. new path ≡ Some output)
+wholly path None rest taken output some leaves appends = tt
+wholly path (Some old) (Some new) (Some taken) output some (inl is, others) appends = is ∙ ap Some appends
+wholly path (Some old) (Some new) (Some taken) output some (inr same, others) appends = absurd (some (sym appends ∙ same.0))
+wholly path (Some old) (Some new) None output some leaves appends = absurd leaves
+wholly path (Some old) None taken output some leaves appends = absurd leaves
+
+beside : (path : FileName) (files rest : Option Files) (taken : Option (List ℕ)) → Leaves path taken files rest → SameBeside path files rest
+beside path None rest taken leaves = tt
+beside path (Some old) (Some new) (Some taken) leaves = leaves.1
+beside path (Some old) (Some new) None leaves = absurd leaves
+beside path (Some old) None taken leaves = absurd leaves
+
+cut_at : (files : Option Files) (output : List ℕ) (n : ℕ) → n < length output → IsCutAt files output n
+cut_at None output n short = less_within n (length output) short
+cut_at (Some at) output n short = short
+
+-- a file whose device failed when it was closed
+lost : (path : FileName) (files rest : Option Files) (output : List ℕ) (n before after : ℕ) → files ≡ None → n ≡ length output
+    → IsBlamed (write.WriteFailed n) before after → IsStored files rest before after path output (Err (write.WriteFailed n))
+lost path None rest output n before after unknown whole counts =
+    record { others = tt; count = tt; whole = tt; within = omega (arith, whole); front = (tt, counts) }
+lost path (Some at) rest output n before after unknown whole counts = absurd cc
+
+-- a file that may only have been emptied, after out of memory
+emptied : (path : FileName) (files rest : Option Files) (before after : ℕ) (output : List ℕ) → MayEmpty path files rest → 0 < length output
+    → after ≡ before → IsStored files rest before after path output (Err (write.OutOfMemory 0))
+emptied path files rest before after output may short unfailed = record {
+  others = others files rest may;
   count = tt;
   whole = tt;
-  within = written.within;
-  front = (inr (stands ∙ ap Some written.front.0), counted);
-}
+  within = cut_at files output 0 short;
+  front = (front files rest may, unfailed);
+} where
+  others : (files rest : Option Files) → MayEmpty path files rest → SameBeside path files rest
+  others None rest may = tt
+  others (Some old) None may = absurd may
+  others (Some old) (Some new) may = may.1
 
--- a refusal of the bytes is not counted
-unsent_count : (form : Form) (octets : List ℕ) (fault : Fault) (before after : ℕ) → IsOutputFault form octets fault
-    → CountsFailure before after (Err fault) → after ≡ before
-unsent_count form octets (WriteFailed sent) before after (inl refused) counts = absurd refused.stands
-unsent_count form octets (WriteFailed sent) before after (inr none) counts = absurd (let is = none.is in cc)
-unsent_count form octets _ before after cause counts = counts
+  front : (files rest : Option Files) → MayEmpty path files rest → HoldsFront files rest path output 0
+  front None rest may = tt
+  front (Some old) None may = absurd may
+  front (Some old) (Some new) may = elim (was_or_empty (old path) (new path) may.0) [
+    | inl is ↦ inl (refl, is)
+    | inr empty ↦ inr empty
+  ]
 
--- a failure of the device is counted
-pub sent_count : (sent : Result ℕ WriteFault) (before after : ℕ) → CountsFailure before after (answer_of sent)
-    → MatchResult sent (λ _. after ≡ before) (λ fault. IsBlamed fault before after)
-sent_count (Ok n) before after counts = counts
-sent_count (Err (write.WriteFailed n)) before after counts = counts
-sent_count (Err (write.OutOfMemory n)) before after counts = counts
+module _ (form : Form) (octets : List ℕ) (path : FileName) (files rest : Option Files) (before after : ℕ) where
+  -- the bytes are refused
+  unstored : (fault : Fault) (is_kept needs_memory : Bool) → IsOutputFault form octets fault → SameFiles files rest
+      → CountsFailure before after (result_of (Err fault) is_kept needs_memory)
+      → Stores form octets files rest before after path (result_of (Err fault) is_kept needs_memory)
+  unstored (WriteFailed sent) is_kept needs_memory (inl refused) kept counts = absurd refused.stands
+  unstored (WriteFailed sent) is_kept needs_memory (inr none) kept counts = absurd (let is = none.is in cc)
+  unstored ReadFailed is_kept needs_memory (inl refused) kept counts = absurd refused.stands
+  unstored ReadFailed is_kept needs_memory (inr none) kept counts = absurd (let is = none.is in cc)
+  unstored fault is_kept needs_memory cause kept counts =
+      inl (record { fault = fault; is = refl; cause = cause; kept = kept; unfailed = counts })
 
--- nothing is stored
-pub unstored : (form : Form) (octets : List ℕ) (files rest : Option Files) (before after : ℕ) (path : FileName) (fault : Fault)
-    (result : Result ℕ Fault) → result ≡ Err fault → IsOutputFault form octets fault → SameFiles files rest
-    → CountsFailure before after result → Stores form octets files rest before after path result
-unstored form octets files rest before after path fault result is cause kept counts = inl (record {
-  fault = fault;
-  is = is;
-  cause = cause;
-  kept = kept;
-  unfailed = unsent_count form octets fault before after cause (rw is at counts);
-})
+  -- the output is cut
+  cut : (output : List ℕ) (taken : Option (List ℕ)) (failures : ℕ) (fault told : WriteFault) → IsOutput form octets output
+      → Leaves path taken files rest → IsWritten output (held_by files None) taken 0 failures (Err fault) → sent_of told ≡ sent_of fault
+      → IsBlamed told before after → Stores form octets files rest before after path (Err (write_fault_for told))
+  cut output taken failures fault told of leaves written same blamed = inr (record {
+    output = output;
+    of = of;
+    sent = Err told;
+    is = refl;
+    stored = record {
+      others = beside path files rest taken leaves;
+      count = tt;
+      whole = tt;
+      within = rw same (cut_at files output (sent_of fault) written.within);
+      front = (rw same (fronted path files rest taken output (sent_of fault) written.within leaves written.front.0), blamed);
+    };
+  })
 
--- out of memory before anything was stored
-pub wanting : (form : Form) (octets : List ℕ) (files rest : Option Files) (before after : ℕ) (path : FileName)
-    → SameFiles files rest → after ≡ before → Stores form octets files rest before after path (Err (OutOfMemory 0))
-wanting form octets files rest before after path kept unfailed = inl (record {
-  fault = OutOfMemory 0;
-  is = refl;
-  cause = inl (record { stands = refl; none = λ other v accepted. other refl });
-  kept = kept;
-  unfailed = unfailed;
-})
+  -- the output is sent
+  sent : (output : List ℕ) (taken : Option (List ℕ)) (failures : ℕ) (result : Result ℕ WriteFault) (is_kept needs_memory : Bool)
+      → IsOutput form octets output → (is_kept ≡ false → files ≡ None) → Leaves path taken files rest
+      → IsWritten output (held_by files None) taken 0 failures result → CountsFailure before after (result_of (answer_of result) is_kept needs_memory)
+      → Stores form octets files rest before after path (result_of (answer_of result) is_kept needs_memory)
+  sent output taken failures (Ok n) true needs_memory of unknown leaves written counts = inr (record {
+    output = output;
+    of = of;
+    sent = Ok n;
+    is = refl;
+    stored = record {
+      others = beside path files rest taken leaves;
+      count = (written.count, counts);
+      whole = wholly path files rest taken output (output_some form octets output of) leaves written.whole.0;
+      within = tt;
+      front = tt;
+    };
+  })
+  sent output taken failures (Ok n) false needs_memory of unknown leaves written counts = inr (record {
+    output = output;
+    of = of;
+    sent = Err (write.WriteFailed n);
+    is = refl;
+    stored = lost path files rest output n before after (unknown refl) written.count counts;
+  })
+  sent output taken failures (Err (write.WriteFailed n)) is_kept true of unknown leaves written counts =
+      cut output taken failures (write.WriteFailed n) (write.OutOfMemory n) of leaves written refl counts
+  sent output taken failures (Err (write.WriteFailed n)) is_kept false of unknown leaves written counts =
+      cut output taken failures (write.WriteFailed n) (write.WriteFailed n) of leaves written refl counts
+  sent output taken failures (Err (write.OutOfMemory n)) is_kept needs_memory of unknown leaves written counts =
+      cut output taken failures (write.OutOfMemory n) (write.OutOfMemory n) of leaves written refl counts
 
--- what an empty sink took is stored at the path
-pub stored_taken : (form : Form) (octets : List ℕ) (old new : Files) (before after failures : ℕ) (path : FileName) (taken : List ℕ)
-    (result : Result ℕ Fault) → Writes form octets (Some []) (Some taken) 0 failures result → (true ≡ is_ok result) ⊎ (taken ≢ [])
-    → new path ≡ Some taken → ((other : FileName) → other ≢ path → new other ≡ old other) → CountsFailure before after result
-    → Stores form octets (Some old) (Some new) before after path result
-stored_taken form octets old new before after failures path taken result (inl unsent) (inl ok) stands others counts =
-    absurd (let no : true ≡ is_ok {T = ℕ} (Err unsent.fault) = rw unsent.is at ok in cc)
-stored_taken form octets old new before after failures path taken result (inl unsent) (inr some) stands others counts =
-    absurd (some (let nothing : Some taken ≡ Some [] = unsent.nothing in cc))
-stored_taken form octets old new before after failures path taken result (inr goes) sends stands others counts = inr (record {
-  output = goes.output;
-  of = goes.of;
-  sent = goes.sent;
-  is = goes.is;
-  stored = stored old new before after failures path goes.output taken goes.sent goes.written stands others (sent_count goes.sent before after (rw goes.is at counts));
-})
+  pub closed : (taken : Option (List ℕ)) (failures : ℕ) (result : Result ℕ Fault) (is_kept needs_memory : Bool) → (is_kept ≡ false → files ≡ None)
+      → Leaves path taken files rest → (taken ≡ held_by files None → failures ≡ 0 → SameFiles files rest)
+      → Writes form octets (held_by files None) taken 0 failures result → CountsFailure before after (result_of result is_kept needs_memory)
+      → Stores form octets files rest before after path (result_of result is_kept needs_memory)
+  closed taken failures result is_kept needs_memory unknown leaves same (inl unsent) counts =
+      rw unsent.is (unstored unsent.fault is_kept needs_memory unsent.cause (same unsent.nothing unsent.unfailed) (rw unsent.is at counts))
+  closed taken failures result is_kept needs_memory unknown leaves same (inr goes) counts =
+      rw goes.is (sent goes.output taken failures goes.sent is_kept needs_memory goes.of unknown leaves goes.written (rw goes.is at counts))
 
--- nothing was sent
-pub none_sent : (octets : List ℕ) (sent : ℕ) → sent ≤ length octets → [] ≡ take sent octets → sent ≡ 0
-none_sent octets sent within none = sym (ap length none ∙ length-take-le sent octets within)
+  -- out of memory to close the file
+  pub unclosed : (taken : Option (List ℕ)) (failures : ℕ) (result : Result ℕ Fault) → MayEmpty path files rest
+      → (taken ≡ held_by files None → failures ≡ 0 → SameFiles files rest) → Writes form octets (held_by files None) taken 0 failures result
+      → after ≡ before → Stores form octets files rest before after path (Err (OutOfMemory 0))
+  unclosed taken failures result may same (inl unsent) unfailed =
+      unstored (OutOfMemory 0) true true (inl (record { stands = refl; none = λ other v accepted. other refl })) (same unsent.nothing unsent.unfailed) unfailed
+  unclosed taken failures result may same (inr goes) unfailed =
+      let short = output_long goes.output (output_some form octets goes.output goes.of) in
+      inr (record {
+        output = goes.output;
+        of = goes.of;
+        sent = Err (write.OutOfMemory 0);
+        is = refl;
+        stored = emptied path files rest before after goes.output may short unfailed;
+      })
 
--- the path is unchanged if nothing was sent to it
-pub unsent_stored : (old new : Files) (before after failures : ℕ) (path : FileName) (octets : List ℕ) (sent : Result ℕ WriteFault)
-    → false ≡ is_ok (answer_of sent) → IsWritten octets (Some []) (Some []) 0 failures sent → ((other : FileName) → new other ≡ old other)
-    → MatchResult sent (λ _. after ≡ before) (λ fault. IsBlamed fault before after)
-    → IsStored (Some old) (Some new) before after path octets sent
-unsent_stored old new before after failures path octets (Ok n) err written same counted = absurd cc
-unsent_stored old new before after failures path octets (Err fault) err written same counted = record {
-  others = λ other _. same other;
-  count = tt;
-  whole = tt;
-  within = written.within;
-  front = (inl (none_sent octets (sent_of fault) (less_within _ _ written.within) written.front.0, same path), counted);
-}
-
-pub stored_none : (form : Form) (octets : List ℕ) (old new : Files) (before after failures : ℕ) (path : FileName) (taken : List ℕ)
-    (result : Result ℕ Fault) → Writes form octets (Some []) (Some taken) 0 failures result → false ≡ is_ok result → taken ≡ []
-    → ((other : FileName) → new other ≡ old other) → CountsFailure before after result
-    → Stores form octets (Some old) (Some new) before after path result
-stored_none form octets old new before after failures path taken result (inl unsent) err none same counts =
-    unstored form octets (Some old) (Some new) before after path unsent.fault result unsent.is unsent.cause same counts
-stored_none form octets old new before after failures path taken result (inr goes) err none same counts = inr (record {
-  output = goes.output;
-  of = goes.of;
-  sent = goes.sent;
-  is = goes.is;
-  stored = unsent_stored old new before after failures path goes.output goes.sent (rw goes.is at err) (rw none at goes.written) same
-      (sent_count goes.sent before after (rw goes.is at counts));
-})
-
--- whether the sink took something
-pub some_taken : (seen taken : List ℕ) → seen ≡ taken → false ≡ (length seen == 0) → taken ≢ []
-some_taken seen taken same some none = absurd (let no : false ≡ (length {A = ℕ} [] == 0) = rw (same ∙ none) at some in cc)
-
-pub none_taken : (seen taken : List ℕ) → seen ≡ taken → true ≡ (length seen == 0) → taken ≡ []
-none_taken [] taken same none = sym same
-none_taken (x ∷ xs) taken same none = absurd (let no : length (x ∷ xs) ≡ 0 = (Decides-eqb (length (x ∷ xs)) 0).0 (sym none) in omega (arith, no))
+  -- the files at the end are these
+  pub ending_with : (seen : Option Files) (result : Result ℕ Fault) → seen ≡ rest → Stores form octets files rest before after path result
+      → Stores form octets files seen before after path result
+  ending_with seen result same stores = rw same stores

@@ -43,11 +43,13 @@ writes_sent input rest before after n octets taken unfailed (inr goes) = inr (re
   taken = record { all = taken; unfailed = unfailed };
   file = goes.output;
   canonical = canonical_output octets goes.output goes.of;
-  sent = goes.sent;
-  printed = after.printed;
-  failures = after.print_failures;
-  written = goes.written;
-  ends = sent_whole (refusal standard) goes.sent n after.printed after.print_failures goes.is;
+  sends = record {
+    sent = goes.sent;
+    printed = after.printed;
+    failures = after.print_failures;
+    written = goes.written;
+    ends = sent_whole (refusal standard) goes.sent n after.printed after.print_failures goes.is;
+  };
 })
 
 pub filter_sent : (input rest : Input) (before after : State) (n : ℕ)
@@ -114,11 +116,13 @@ writes_refused input rest before after status printed failures fault octets take
       taken = record { all = taken; unfailed = unfailed };
       file = goes.output;
       canonical = canonical_output octets goes.output goes.of;
-      sent = goes.sent;
-      printed = printed;
-      failures = failures;
-      written = goes.written;
-      ends = sent_front (refusal standard) goes.sent fault printed after.printed failures after.print_failures status goes.is ends;
+      sends = record {
+        sent = goes.sent;
+        printed = printed;
+        failures = failures;
+        written = goes.written;
+        ends = sent_front (refusal standard) goes.sent fault printed after.printed failures after.print_failures status goes.is ends;
+      };
     })
 
 pub filter_refused : (input rest : Input) (before after : State) (status : ℕ) (printed : Option (List ℕ)) (failures : ℕ) (fault : Fault)

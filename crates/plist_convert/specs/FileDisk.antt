@@ -33,12 +33,9 @@ abbrev pub IsFullAt : Form → List ℕ → ℕ → Fault → Type 0
 IsFullAt form octets limit (WriteFailed sent) = IsFull form octets limit sent
 IsFullAt form octets limit _ = Unit {0}
 
--- what is lost when its file is closed was not written
-abbrev pub unless_lost : (is_kept : Bool) → Result ℕ Fault → Result ℕ Fault
-unless_lost false (Ok sent) = Err (WriteFailed sent)
-unless_lost _ result = result
-
--- the result of a store: a device that ran out of memory is 60 in place of 51
-abbrev pub told : (needs_memory : Bool) → Result ℕ Fault → Result ℕ Fault
-told true (Err (WriteFailed sent)) = Err (OutOfMemory sent)
-told _ result = result
+-- The result of a store whose file was closed: what was lost then was not written, and a device that
+-- ran out of memory is 60 in place of 51.
+abbrev pub result_of : Result ℕ Fault → (is_kept needs_memory : Bool) → Result ℕ Fault
+result_of (Ok sent) false _ = Err (WriteFailed sent)
+result_of (Err (WriteFailed sent)) _ true = Err (OutOfMemory sent)
+result_of sent _ _ = sent

@@ -85,8 +85,9 @@ pub record IsStored (files rest : Option Files) (before after : ℕ) (path : Fil
   pub front : IfErr result (λ fault. HoldsFront files rest path octets (sent_of fault)
       × IsBlamed fault before after)
 
--- The count of failures after a file was sent with this result: one more if the device failed.
-abbrev pub CountsFailure : ℕ → ℕ → Result ℕ Fault → Type 0
+-- the count of failures after this result: one more if a device failed
+abbrev pub CountsFailure : {T : Type 0} → ℕ → ℕ → Result T Fault → Type 0
+CountsFailure before after (Err ReadFailed) = after ≡ one_more before
 CountsFailure before after (Err (WriteFailed sent)) = after ≡ one_more before
 CountsFailure before after _ = after ≡ before
 

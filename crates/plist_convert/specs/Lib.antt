@@ -12,4 +12,3 @@ pub mod Files
 pub mod FileDisk
 pub mod Opens
 pub mod OneProof
-pub mod MemoryFiles

@@ -1,16 +1,13 @@
 -- What opening, creating and keeping a file means, if the opener knows the files.
 use Rattle.std.specs.Prelude.{◌≡◌, ◌≢◌, ◌⊎◌, ◌↔◌, ℕ, ◌<◌, ◌≤◌, Bool, true, false, List, [], ◌∷◌}
-use Rattle.std.specs.Prelude.{length, None, Option, Some, Result, Err, IfSome, option_map}
+use Rattle.std.specs.Prelude.{length, None, Option, Some, IfSome, option_map}
 use Rattle.std.specs.IoError.{error_kind}
 use Rattle.std.specs.declared.io.Error.{Error}
 use Rattle.std.specs.declared.io.ErrorKind.TheVariants as kind
-use Rattle.plist_devices.specs.Count.{one_more}
 use Rattle.plist_forms.specs.declared.faults.Fault.{Fault}
 use Rattle.plist_forms.specs.declared.faults.Fault.TheVariants.{ReadFailed, InputTooLarge}
 use Rattle.plist_forms.specs.declared.faults.Fault.TheVariants.{OutOfMemory}
 use Rattle.plist_forms.specs.declared.loading.TheConstants.{MAX_INPUT}
-use Rattle.plist_forms.specs.declared.forms.Form.{Form}
-use Rattle.plist_forms.specs.Transfer.{Writes}
 use Rattle.plist_convert.specs.declared.opens.Created.{Created}
 use Rattle.plist_convert.specs.Files.{FileName, Files, Lacks, SameFiles, Turns}
 
@@ -106,11 +103,6 @@ IsUnfound files path Failed InputTooLarge =
 IsUnfound files path Failed (OutOfMemory sent) = sent ≡ 0
 IsUnfound files path Failed _ = ⊥
 
--- The count of failures after a load: one more if a device failed.
-abbrev pub CountsUnread : {T : Type 0} → ℕ → ℕ → Result T Fault → Type 0
-CountsUnread before after (Err ReadFailed) = after ≡ one_more before
-CountsUnread before after _ = after ≡ before
-
 -- The contents of a file that is created at its first write, if the opener knows the files: nothing
 -- before that, and then what its writer wrote.
 abbrev pub held_by : Option Files → Option (Option (List ℕ)) → Option (List ℕ)
@@ -134,14 +126,3 @@ is_begun (Some at) (Some (Some (octet ∷ octets))) = true
 -- no file is changed if this one was not created and no write failed
 abbrev pub IsUntouched : {A : Type 0} → Option A → ℕ → Option Files → Option Files → Type 0
 IsUntouched created failures before after = created ≡ None → failures ≡ 0 → SameFiles before after
-
--- What is sent to a file that is created at its first write: the output for the bytes, or the
--- prefix that the refusal states. Until it is closed its file is what it was or empty. If nothing
--- was written and no write failed, no file is changed.
-pub record Creates (form : Form) (octets : List ℕ) (path : FileName) (before after : Option Files)
-    (contents : Option (Option (List ℕ))) (result : Result ℕ Fault) : Type 0 where
-  pub failures : ℕ
-  pub writes : Writes form octets (held_by before None) (held_by before contents) 0 failures result
-  pub begun : is_begun before contents ≡ true
-  pub emptied : MayEmpty path before after
-  pub untouched : IsUntouched contents failures before after

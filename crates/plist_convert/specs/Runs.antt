@@ -111,11 +111,22 @@ IsSameRun first second before after status =
 
 -- how the program ends after a file was sent: it prints nothing more if all was sent, and otherwise
 -- the line of the refusal
-abbrev pub EndsSending : Option (List ℕ) → Option (List ℕ) → ℕ → ℕ → (WriteFault → Said)
+abbrev pub EndsSending : Option (List ℕ) → Option (List ℕ) → ℕ → ℕ → (Fault → Said)
     → Result ℕ WriteFault → ℕ → Type 0
 EndsSending old new before after line result status = MatchResult result
     (λ _. (status ≡ 0) × (new ≡ old) × (after ≡ before))
-    (λ fault. Ends old new before after (line fault) status)
+    (λ fault. Ends old new before after (line (write_fault_for fault)) status)
+
+-- The bytes are printed completely, or exactly a prefix if printing failed or memory ran out. After
+-- a prefix, the line of the refusal is printed, starting from what was printed and the failures of
+-- printing so far.
+pub record IsSentOut (line : Fault → Said) (octets : List ℕ) (before after : State)
+    (status : ℕ) : Type 0 where
+  pub sent : Result ℕ WriteFault
+  pub printed : Option (List ℕ)
+  pub failures : ℕ
+  pub written : IsWritten octets before.printed printed before.print_failures failures sent
+  pub ends : EndsSending printed after.printed failures after.print_failures line sent status
 
 -- the path in the line of a refusal of a conversion: OUT if it cannot be written, otherwise IN
 abbrev pub path_of_fault : FileName → FileName → Fault → FileName
@@ -126,23 +137,19 @@ path_of_fault from to _ = from
 abbrev pub refusal_between : FileName → FileName → Fault → Said
 refusal_between from to fault = refusal (path_of_fault from to fault) fault
 
--- The bytes are stored at a path, up to a refusal if there is one. No other file changes.
-pub record IsStoreRun (from to : FileName) (file : List ℕ) (before after : State)
-    (status : ℕ) : Type 0 where
-  pub result : Result ℕ WriteFault
-  pub stored : IsStored before.files after.files before.disk_failures after.disk_failures to file
-      result
-  pub ends : EndsSending before.printed after.printed before.print_failures after.print_failures
-      (λ fault. refusal_between from to (write_fault_for fault)) result status
-
--- The output for the bytes at one path is stored at the other.
+-- The output for the bytes at one path is stored at the other, up to a refusal if there is one. No
+-- other file changes.
 pub record IsConverted (form : Form) (from to : FileName) (before after : State)
     (status : ℕ) : Type 0 where
   pub octets : List ℕ
   pub stands : FileHolds before.files from octets
   pub file : List ℕ
   pub of : IsOutput form octets file
-  pub stored : IsStoreRun from to file before after status
+  pub sent : Result ℕ WriteFault
+  pub stored : IsStored before.files after.files before.disk_failures after.disk_failures to file
+      sent
+  pub ends : EndsSending before.printed after.printed before.print_failures after.print_failures
+      (refusal_between from to) sent status
 
 -- `convert FORM IN OUT`
 unfoldable pub IsConvertRun : Form → FileName → FileName → State → State → ℕ → Type 0
@@ -155,9 +162,7 @@ IsConvertRun form from to before after status =
 abbrev pub standard : FileName
 standard = codes "-"
 
--- The text of the value at the path is printed completely, or exactly a prefix if printing failed
--- or memory ran out. After a prefix, the line of the refusal is printed, starting from what was
--- printed and the failures of printing so far.
+-- The text of the value at the path is printed.
 pub record IsPrintedRun (path : FileName) (before after : State) (status : ℕ) : Type 0 where
   pub octets : List ℕ
   pub stands : FileHolds before.files path octets
@@ -165,12 +170,7 @@ pub record IsPrintedRun (path : FileName) (before after : State) (status : ℕ) 
   pub unfailed : after.disk_failures ≡ before.disk_failures
   pub text : List ℕ
   pub of : IsPrintOf octets text
-  pub sent : Result ℕ WriteFault
-  pub printed : Option (List ℕ)
-  pub failures : ℕ
-  pub written : IsWritten text before.printed printed before.print_failures failures sent
-  pub ends : EndsSending printed after.printed failures after.print_failures
-      (λ fault. refusal_between path standard (write_fault_for fault)) sent status
+  pub sends : IsSentOut (refusal_between path standard) text before after status
 
 -- `print IN`
 unfoldable pub IsPrintRun : FileName → State → State → ℕ → Type 0
@@ -209,20 +209,13 @@ pub record IsUnfiltered (input rest : Input) (before after : State) (status : �
   pub cause : IsInputFault input rest fault
   pub ends : Ending before after (refusal standard fault) status
 
--- The canonical file of the input is written completely, or exactly a prefix if printing failed or
--- memory ran out. After a prefix, the line of the refusal is printed, starting from what was
--- printed and the failures of printing so far.
+-- The canonical file of the input is written to the output.
 pub record IsFiltered (input rest : Input) (before after : State) (status : ℕ) : Type 0 where
   pub octets : List ℕ
   pub taken : IsTaken input rest octets
   pub file : List ℕ
   pub canonical : IsCanonicalOf octets file
-  pub sent : Result ℕ WriteFault
-  pub printed : Option (List ℕ)
-  pub failures : ℕ
-  pub written : IsWritten file before.printed printed before.print_failures failures sent
-  pub ends : EndsSending printed after.printed failures after.print_failures
-      (λ fault. refusal standard (write_fault_for fault)) sent status
+  pub sends : IsSentOut (refusal standard) file before after status
 
 -- no arguments
 unfoldable pub IsFilterRun : Input → Input → State → State → ℕ → Type 0

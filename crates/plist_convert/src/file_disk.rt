@@ -1,11 +1,10 @@
 //! Loads and stores files.
 ghost use Rattle.std.specs.Prelude.{◌≡◌, ◌≤◌, false, IfErr, IfOk, IfSome, None, OnErr, OnOk};
-ghost use Rattle.std.specs.Prelude.{IsErrOf, IsTrue, option_map};
+ghost use Rattle.std.specs.Prelude.{IsErrOf, IsTrue, ℕ};
 ghost use Rattle.plist_forms.specs.Load.{octets_or};
-ghost use Rattle.plist_convert.specs.FileDisk.{IsFullAt, told, unless_lost as kept_or_lost};
+ghost use Rattle.plist_convert.specs.FileDisk.{IsFullAt, result_of};
 ghost use Rattle.plist_convert.specs.Files.{CountsFailure, FileHolds, LoadsFile, SameFiles, Stores};
-ghost use Rattle.plist_convert.specs.Opens.{CountsUnread, Creates, HasFailing, IsUnfound};
-ghost use Rattle.plist_convert.specs.Opens.{IsUnopenedAs, Settles, written_of};
+ghost use Rattle.plist_convert.specs.Opens.{HasFailing, IsUnfound, IsUnopenedAs, Settles};
 
 use crate::created_file::{CreatedFile, KnownTarget, Target};
 use crate::opens::{Created, Opens, Steady};
@@ -90,7 +89,7 @@ impl<O: Steady, H: BuildHasher + Copy> FileDisk<O, H> {
         ensures limit { limit_of O.limit self.new ≡ limit_of O.limit self.old }
     {
         let found = octets_at(&self.opener, alloc, path, known);
-        self.failures = failures_after_load(self.failures, &found);
+        self.failures = failures_after(self.failures, &found);
         found
     }
 
@@ -123,20 +122,17 @@ impl<O: Steady, H: BuildHasher + Copy> FileDisk<O, H> {
         ensures full { IfErr result (λ fault. IfSome (files_of O.files self.old)
             (λ _. IsFullAt form octets.items (limit_of O.limit self.old) fault)) }
     {
-        let opener = &mut self.opener;
         let target = Target { path };
-        let (created, sent, needs_memory) = write_target::<O, H, Brand>(
-            opener,
+        let stored = write_target::<O, H, Brand>(
+            &mut self.opener,
             alloc,
             self.hasher,
             target,
             octets,
             form,
         );
-        let is_kept = close(&mut self.opener, alloc, created)?;
-        let sent = unless_lost(sent, is_kept);
-        self.failures = failures_after(self.failures, &sent, needs_memory);
-        as_out_of_memory(sent, needs_memory)
+        self.failures = failures_after(self.failures, &stored);
+        stored
     }
 
     /// Returns the number of devices that failed so far, up to `u64::MAX`.
@@ -185,52 +181,52 @@ fn unopened(error: &io::Error) -> Fault
     }
 }
 
-// Returns the count of failures after a load.
-fn failures_after_load(failures: u64, found: &Result<Option<Vec<u8>>, Fault>) -> u64
-    ensures { CountsUnread failures result found.now }
+// Returns the count of failures after this result: one more if a device failed.
+fn failures_after<T>(failures: u64, ended: &Result<T, Fault>) -> u64
+    ensures { CountsFailure failures result ended.now }
 {
-    match found {
-        Err(Fault::ReadFailed) => failures.saturating_add(1),
+    match ended {
+        Err(Fault::ReadFailed | Fault::WriteFailed { .. }) => failures.saturating_add(1),
         _ => failures,
     }
 }
 
 // Converts the bytes to this form and writes the output to the file of the target, which is
-// created at the first write. Returns the file if it was created, the result of
-// [`convert_octets`], and whether memory ran out for the file.
-fn write_target<'p, O: Opens, H: BuildHasher + Copy, K: KnownTarget>(
+// created at the first write and closed after the last.
+//
+// # Errors
+//
+// Fails like [`FileDisk::store`].
+fn write_target<O: Opens, H: BuildHasher + Copy, K: KnownTarget>(
     opener: &mut O,
     alloc: Global,
     hasher: H,
-    target: Target<'p>,
+    target: Target,
     octets: Vec<u8>,
     form: Form,
-) -> (Option<Created<'p, O::Writer>>, Result<u64, Fault>, bool)
+) -> Result<u64, Fault>
     requires path { target.path.now ≡ K.path }
     requires files { O.files opener.old ≡ K.files }
     requires limit { O.limit opener.old ≡ K.limit }
-    ensures placed { IfSome result.0 (λ created. created.path.now ≡ target.entry.path.now) }
-    ensures creates { Creates form octets.items target.entry.path.now
-        (O.files opener.old) (O.files opener.new)
-        (option_map (written_of O.Writer.contents) result.0) result.1 }
+    ensures stores { (before : ℕ) (after : ℕ) → CountsFailure before after result
+        → Stores form octets.items (O.files opener.old) (O.files opener.new) before after
+        target.entry.path.now result }
     ensures limit { O.limit opener.new ≡ O.limit opener.old }
-    ensures fits { IfOk result.1 (λ count.
+    ensures fits { IfOk result (λ count.
         IfSome (O.files opener.old) (λ _. count ≤ O.limit opener.old)) }
-    ensures full { result.2 ≡ false → IfErr result.1 (λ fault. IfSome (O.files opener.old)
+    ensures full { IfErr result (λ fault. IfSome (O.files opener.old)
         (λ _. IsFullAt form octets.items (O.limit opener.old) fault)) }
-    ensures memory { O.files opener.new ≡ None → result.2 ≡ false }
 {
     let mut file: CreatedFile<O, K> = CreatedFile::new(alloc, opener, target.path);
     let sent = convert_octets(alloc, hasher, octets, &mut file, form);
     let CreatedFile {
-        opener: kept,
+        opener,
         created,
         needs_memory,
         ..
     } = file;
-    // This has no effect. The proof takes from it what `opener` is in the end.
-    let _ = &*kept;
-    (created, sent, needs_memory)
+    let is_kept = close(opener, alloc, created)?;
+    told(sent, is_kept, needs_memory)
 }
 
 // Closes the file, if it was created, and returns whether it contains what was written. If out of
@@ -252,32 +248,13 @@ fn close<O: Opens>(
     }
 }
 
-// Returns the result of a store whose file was closed: what is lost then was not written.
-fn unless_lost(sent: Result<u64, Fault>, is_kept: bool) -> Result<u64, Fault>
-    ensures { result ≡ kept_or_lost is_kept sent }
+// Returns the result of a store whose file was closed: what is lost then was not written, and if
+// memory ran out for the file, the device has not failed.
+fn told(sent: Result<u64, Fault>, is_kept: bool, needs_memory: bool) -> Result<u64, Fault>
+    ensures { result ≡ result_of sent is_kept needs_memory }
 {
     match sent {
         Ok(sent) if !is_kept => Err(Fault::WriteFailed { sent }),
-        _ => sent,
-    }
-}
-
-// Returns the count of failures after a file was sent with this result. If memory ran out for the
-// file, the device has not failed.
-fn failures_after(failures: u64, sent: &Result<u64, Fault>, needs_memory: bool) -> u64
-    ensures { CountsFailure failures result (told needs_memory sent.now) }
-{
-    match sent {
-        Err(Fault::WriteFailed { .. }) if !needs_memory => failures.saturating_add(1),
-        _ => failures,
-    }
-}
-
-// Returns the result of a store: if memory ran out for the file, the device has not failed.
-fn as_out_of_memory(sent: Result<u64, Fault>, needs_memory: bool) -> Result<u64, Fault>
-    ensures { result ≡ told needs_memory sent }
-{
-    match sent {
         Err(Fault::WriteFailed { sent }) if needs_memory => Err(Fault::OutOfMemory { sent }),
         _ => sent,
     }

@@ -12,7 +12,6 @@ pub mod file_disk;
 mod filtering;
 mod help;
 pub mod host_disk;
-pub mod memory_files;
 pub mod opens;
 mod printing;
 mod random_keys;
@@ -23,7 +22,6 @@ mod verdicts;
 pub use entry::{run, run_on, run_to_end};
 pub use file_disk::FileDisk;
 pub use host_disk::HostDisk;
-pub use memory_files::MemoryFiles;
 pub use plist_devices::{
     DeviceFault, ListSink, ListSource, ReaderSource, Sink, Source, Stream, WriterSink, put_all,
 };

@@ -1,10 +1,11 @@
 //! `explain` of the lines that the program prints.
 use crate::worked_files::{TABLE_TEXT, UNSORTED};
-use plist_convert::{FileDisk, MemoryFiles, run_on};
+use plist_convert::{FileDisk, run_on};
 use plist_devices::{ListSink, ListSource};
 use plist_value::FixedHasher;
 use std::alloc::{AllocError, Global};
 use std::test::Fail;
+use test_files::memory_files::MemoryFiles;
 
 // Files with the names of options, and of what lines say.
 const FILES: [(&str, &[u8]); 4] = [

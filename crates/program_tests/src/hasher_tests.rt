@@ -3,7 +3,7 @@ use crate::worked_files::{TABLE, TABLE_TEXT, UNSORTED};
 use plist_canon::{canonical_with_hasher, check_with_hasher, write_canonical_with_hasher};
 use plist_convert::answers::{check_answer, check_answer_of, same_answer};
 use plist_convert::opens::Steady;
-use plist_convert::{FileDisk, Form, HostDisk, ListSource, MemoryFiles, read_any, run_on};
+use plist_convert::{FileDisk, Form, HostDisk, ListSource, read_any, run_on};
 use plist_devices::ListSink;
 use plist_forms::{
     canonicalise_with_hasher, convert_octets, convert_with_hasher, same_files_with_hasher,
@@ -14,6 +14,7 @@ use std::cell::Cell;
 use std::fs;
 use std::hash::{BuildHasher, FoldHasher};
 use std::test::Fail;
+use test_files::memory_files::MemoryFiles;
 
 // Builds copies of a hasher, and counts them.
 #[derive(Clone, Copy)]

@@ -2,12 +2,13 @@
 use crate::device_tests::file_of_data;
 use crate::words::{printed_of, words_of};
 use crate::worked_files::{TABLE, TABLE_TEXT, TWICE, UNSORTED};
-use plist_convert::{Fault, FileDisk, Form, MemoryFiles, run_on};
+use plist_convert::{Fault, FileDisk, Form, run_on};
 use plist_devices::{ListSink, ListSource};
 use plist_value::FixedHasher;
 use std::alloc::{AllocError, Global};
 use std::hash::{BuildHasher, RandomState};
 use std::test::Fail;
+use test_files::memory_files::MemoryFiles;
 
 // Runs a row, and returns the exit status and the output.
 fn ran<H: BuildHasher + Copy>(

@@ -1,11 +1,12 @@
 //! `lint` and `check` of one path and of several.
 use crate::words::{printed_of, words_of};
 use crate::worked_files::{TABLE, TABLE_TEXT, TWICE, UNSORTED, VALUES_FIRST};
-use plist_convert::{FileDisk, MemoryFiles, run_on};
+use plist_convert::{FileDisk, run_on};
 use plist_devices::{ListSink, ListSource};
 use plist_value::FixedHasher;
 use std::alloc::{AllocError, Global};
 use std::test::Fail;
+use test_files::memory_files::MemoryFiles;
 
 // The files of the rows.
 const FILES: [(&str, &[u8]); 6] = [

@@ -1,10 +1,11 @@
 //! The lines of the program for several inputs.
 use crate::octets::shown;
 use crate::row::Row;
-use plist_convert::{FileDisk, MemoryFiles, run_on};
+use plist_convert::{FileDisk, run_on};
 use plist_devices::{ListSink, ListSource};
 use plist_value::FixedHasher;
 use std::alloc::{AllocError, Global};
+use test_files::memory_files::MemoryFiles;
 
 // The maximum number of bytes of the lines, and of a piece of them.
 const ROOM: usize = 4096;

@@ -1,7 +1,9 @@
-//! Small binary files, made byte by byte and not by the code under test, and devices that fail.
+//! Small binary files, made byte by byte and not by the code under test, devices that fail, and
+//! files in memory.
 #![tactic(auto)]
 
 pub mod devices;
+pub mod memory_files;
 pub mod worked_files;
 
 use std::alloc::{AllocError, Global};

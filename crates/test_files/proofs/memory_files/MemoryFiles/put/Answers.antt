@@ -1,7 +1,7 @@
 use Rattle.std.proofs.Common.{string_bytes}
 use Rattle.std.proofs.lemmas.Map.Text.{btree_map_updates_text}
-use Rattle.plist_convert.proofs.Stored.{other_value}
-use Rattle.plist_convert.proofs.memory_files.MemoryFiles.put.Goals as goal
+use Rattle.test_files.proofs.OtherPaths.{other_value}
+use Rattle.test_files.proofs.memory_files.MemoryFiles.put.Goals as goal
 
 pub returns-clause-others : goal.returns-clause-others
 returns-clause-others c = λ other differs.

@@ -4,18 +4,15 @@ ghost use Rattle.std.specs.IoError.{error_kind};
 ghost use Rattle.plist_convert.specs.Files.{FileName, SameBeside, SameFiles};
 ghost use Rattle.plist_convert.specs.Opens.{IsUnopened, Puts, ReadsAll};
 
-use crate::opens::{Created, Opens, Steady};
+use plist_convert::opens::{Created, Opens, Steady};
 use plist_devices::{DeviceFault, Source};
 use std::alloc::{AllocError, Global};
 use std::collections::BTreeMap;
 use std::io;
 use std::io::{Cursor, ErrorKind, Read};
 
-/// Files in memory, by path, for tests and for programs whose property lists are not in files of
-/// the host. The contents of each path are known, and what is written to it has at most `limit`
-/// bytes.
-///
-/// A [`FileDisk`](crate::file_disk::FileDisk) over them is a disk.
+/// Files in memory, by path. The contents of each path are known, and what is written to it has at
+/// most `limit` bytes. A [`FileDisk`](plist_convert::FileDisk) over them is a disk.
 #[derive(Drop)]
 pub struct MemoryFiles {
     files: BTreeMap<String, Vec<u8>>,
@@ -23,7 +20,7 @@ pub struct MemoryFiles {
 }
 
 impl MemoryFiles {
-    ghost use Rattle.plist_convert.specs.MemoryFiles.{bytes_at, limit_of};
+    ghost use Rattle.test_files.specs.MemoryFiles.{bytes_at, limit_of};
 
     /// Returns an opener without files, which take any number of bytes.
     pub fn new(alloc: Global) -> MemoryFiles
@@ -71,7 +68,7 @@ impl MemoryFiles {
 
 impl Opens for MemoryFiles {
     ghost use Rattle.std.specs.Io.Cursor.{cursor_remaining};
-    ghost use Rattle.plist_convert.specs.MemoryFiles.{bytes_at, limit_of};
+    ghost use Rattle.test_files.specs.MemoryFiles.{bytes_at, limit_of};
 
     type Reader = MemoryReader;
 

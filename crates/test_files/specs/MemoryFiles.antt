@@ -2,7 +2,7 @@
 use Rattle.std.specs.Prelude.{ℕ, option_map}
 use Rattle.std.specs.BTreeMap.{get_by_text}
 use Rattle.plist_convert.specs.Files.{Files}
-use Rattle.plist_convert.specs.declared.memory_files.MemoryFiles.{MemoryFiles}
+use Rattle.test_files.specs.declared.memory_files.MemoryFiles.{MemoryFiles}
 
 -- the bytes at each path
 abbrev pub bytes_at : MemoryFiles → Files
