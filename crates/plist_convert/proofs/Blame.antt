@@ -19,7 +19,7 @@ use Rattle.plist_canon.specs.declared.checking.CheckFault.TheVariants as check
 use Rattle.plist_canon.specs.declared.checking.Verdict.{Verdict}
 use Rattle.plist_canon.specs.declared.checking.Verdict.TheVariants as verdict
 use Rattle.plist_forms.specs.Fault.{check_fault_for, code_of, status_for, write_fault_for}
-use Rattle.plist_forms.specs.Refusals.{FaultStands}
+use Rattle.plist_forms.specs.Refusals.{FaultStands, IsRefused}
 use Rattle.plist_forms.specs.declared.faults.Fault.{Fault}
 use Rattle.plist_forms.specs.declared.faults.Fault.TheVariants.{Binary, Text as OfText, ReadFailed, WriteFailed, InputTooLarge, OutOfMemory}
 use Rattle.plist_forms.specs.declared.pairs.PairFault.{PairFault}
@@ -33,7 +33,7 @@ use Rattle.plist_convert.specs.Files.{FileName, Files, IsStored, IsUnloaded}
 use Rattle.plist_convert.specs.Asked.{Asked, Filters, Converts, Compares, Lints, Checks}
 use Rattle.plist_convert.specs.Asked as asked
 use Rattle.plist_forms.specs.declared.forms.Form.{Form}
-use Rattle.plist_convert.specs.Answer.{IsCheckAnswerOf, IsLintAnswer, IsOutputRefusal, IsRefusedAnswer, IsSameAnswer, Said, Says, equality_said, explained_said, explanation_said, pair_refusal, refusal}
+use Rattle.plist_convert.specs.Answer.{IsCheckAnswerOf, IsLintAnswer, IsRefusalFor, IsSameAnswer, Said, Says, equality_said, explained_said, explanation_said, pair_refusal, refusal}
 use Rattle.plist_convert.specs.Ending.{Ends, HaveFailed, Prints, no_memory}
 use Rattle.plist_convert.specs.Explaining.{Explains, said_of_kind, status_of_kind}
 use Rattle.plist_convert.specs.Program.{DeviceFailed, IsAskedRun, IsRun}
@@ -67,8 +67,8 @@ stands_quiet octets _ stands = absurd stands
 says_quiet : (s t : Said) → Says s t → t.status ≢ 4 → s.status ≢ 4
 says_quiet s t says quiet four = quiet (sym says.1 ∙ four)
 
-refused_quiet : (path octets : List ℕ) (s : Said) → IsRefusedAnswer path octets s → s.status ≢ 4
-refused_quiet path octets s answer = says_quiet s _ answer.says (stands_quiet octets answer.fault answer.refused.stands)
+refused_quiet : (path octets : List ℕ) (s : Said) → IsRefusalFor (IsRefused octets) path s → s.status ≢ 4
+refused_quiet path octets s answer = says_quiet s _ answer.says (stands_quiet octets answer.fault answer.cause.stands)
 
 verdict_quiet : (v : Verdict) → verdict_status_for v ≢ 4
 verdict_quiet verdict.Canonical = no_four refl
@@ -102,7 +102,7 @@ output_quiet : (form : Form) (octets : List ℕ) (fault : Fault) → IsOutputFau
 output_quiet form octets fault (inl refused) = stands_quiet octets fault refused.stands
 output_quiet form octets fault (inr none) = rw none.is (no_four refl)
 
-output_refusal_quiet : (form : Form) (path octets : List ℕ) (s : Said) → IsOutputRefusal form path octets s → s.status ≢ 4
+output_refusal_quiet : (form : Form) (path octets : List ℕ) (s : Said) → IsRefusalFor (IsOutputFault form octets) path s → s.status ≢ 4
 output_refusal_quiet form path octets s answer = says_quiet s _ answer.says (output_quiet form octets answer.fault answer.cause)
 
 explanation_quiet : (word : List ℕ) (found : Option (List ℕ)) → (explanation_said word found).status ≢ 4
@@ -279,7 +279,7 @@ convert_blamed : (form : Form) (from to : FileName) (before after : State) (stat
     → status ≡ 4 → Failed before after
 unfolding IsConvertRun
 convert_blamed form from to before after status (inl unread) four = unread_blamed from before after status unread four
-convert_blamed form from to before after status (inr (inl refused)) four = answered_blamed (IsOutputRefusal form from) from before after status (output_refusal_quiet form from) refused four
+convert_blamed form from to before after status (inr (inl refused)) four = answered_blamed _ from before after status (output_refusal_quiet form from) refused four
 convert_blamed form from to before after status (inr (inr run)) four =
     stored_by from to run.file before after status run.sent run.stored run.ends four
 
@@ -315,7 +315,7 @@ sending_blamed line octets before after status quiet sends four = by sends.sent 
 print_blamed : (path : FileName) (before after : State) (status : ℕ) → IsPrintRun path before after status → status ≡ 4 → Failed before after
 unfolding IsPrintRun
 print_blamed path before after status (inl unread) four = unread_blamed path before after status unread four
-print_blamed path before after status (inr (inl refused)) four = answered_blamed (IsRefusedAnswer path) path before after status (refused_quiet path) refused four
+print_blamed path before after status (inr (inl refused)) four = answered_blamed _ path before after status (refused_quiet path) refused four
 print_blamed path before after status (inr (inr run)) four =
     inr (sending_blamed (refusal_between path standard) run.text before after status (λ n. no_four refl) run.sends four)
 

@@ -3,7 +3,6 @@ pub mod Blame
 pub mod Conversions
 pub mod Each
 pub mod FilesBefore
-pub mod Judged
 pub mod Prints
 pub mod Runs
 pub mod Transfers

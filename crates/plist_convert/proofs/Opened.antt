@@ -2,14 +2,13 @@
 use Rattle.std.proofs.Common.{arith, refl, inl, inr, length-append, Err, List, None, Ok, Option, Result, Some, ℕ, ◌≡◌}
 use Rattle.std.specs.Prelude.{◌<◌, IfErr, IfSome, OnOk, length}
 use Rattle.std.specs.Io.KnownBytes.{Consumes}
-use Rattle.std.specs.declared.io.Error.{Error}
 use Rattle.plist_devices.specs.Count.{one_more}
 use Rattle.plist_forms.specs.Load.{IsLoadFault, Loads}
 use Rattle.plist_forms.specs.declared.faults.Fault.{Fault}
 use Rattle.plist_forms.specs.declared.faults.Fault.TheVariants.{InputTooLarge, OutOfMemory, ReadFailed}
 use Rattle.plist_forms.specs.declared.loading.TheConstants.{MAX_INPUT}
 use Rattle.plist_convert.specs.Files.{CountsFailure, FileName, Files, IsUnloaded}
-use Rattle.plist_convert.specs.Opens.{HasFailing, IsUnfound, IsUnopened, IsUnopenedAs, ReadsAll}
+use Rattle.plist_convert.specs.Opens.{HasFailing, IsUnfound, ReadsAll}
 
 -- the opened file is too large
 large : (files : Option Files) (path : FileName) (to_come rest : Option (List ℕ)) (taken : List ℕ) → ReadsAll files path to_come
@@ -34,12 +33,6 @@ unfound files path failures old new to_come rest (Err InputTooLarge) reads none 
     let took = loads.too_large in large files path to_come rest took.0 reads took.1 (took.2.0 refl)
 unfound files path failures old new to_come rest (Err (OutOfMemory sent)) reads none loads is = is
 unfound files path failures old new to_come rest (Err _) reads none loads is = absurd is
-
--- the refusal of a file that is not opened says why
-pub unopened_unfound : (files : Option Files) (path : FileName) (Failed : Type 0) (error : Error) (fault : Fault)
-    → IsUnopened files path error → IsUnopenedAs error fault → IsUnfound files path Failed fault
-unopened_unfound files path Failed error fault missing (inl memory) = rw memory.1 refl
-unopened_unfound files path Failed error fault missing (inr other) = rw other.1 (inl (missing.0 other.0))
 
 -- no read fails if the opener knows the files
 pub steady : {R : Type 0} (files : Option Files) (failures : R → ℕ) → IfSome files (λ _. (reader : R) → failures reader ≡ 0)

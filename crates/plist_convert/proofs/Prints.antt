@@ -49,7 +49,7 @@ unprinted octets path before after status printed failures fault stands kept unf
       octets = octets;
       stands = stands;
       said = refusal path fault;
-      answers = record { fault = fault; refused = refused; says = (refl, refl) };
+      answers = record { fault = fault; cause = refused; says = (refl, refl) };
       kept = kept;
       unfailed = unfailed;
       ends = rw (← unsent.nothing, ← unsent.unfailed) told;

@@ -1,10 +1,8 @@
 -- Arguments that are not parsed, and those that are.
-use Rattle.std.proofs.Common.{arith, refl, sym, zero, suc, List, None, Ok, Option, Some, [], ◌∷◌, ◌≡◌, ◌<◌, ◌≤◌, ℕ, length, map}
-use Rattle.std.specs.Prelude.{IfSome, option_map}
-use Rattle.std.specs.List.{slice_index_or}
-use Rattle.std.specs.Borrow.{Bor}
+use Rattle.std.proofs.Common.{refl, List, None, Ok, Option, Some, ◌≡◌}
+use Rattle.std.specs.Prelude.{IfSome}
 use Rattle.clap.specs.Words.{Text}
-use Rattle.plist_convert.specs.Asked.{Asked, Filters, asked_by, asked_unparsed, line_asked}
+use Rattle.plist_convert.specs.Asked.{Asked, asked_by, asked_unparsed}
 use Rattle.plist_convert.specs.Program.{AreTaken, AskFor}
 use Rattle.plist_convert.specs.Reading.{IsReading}
 use Rattle.plist_convert.specs.declared.request.Request.{Request}
@@ -29,24 +27,3 @@ asked_for words request unparsed reads = record {
     is = (reads none).taken.1;
   };
 }
-
-abbrev texts_of : List (Bor Text) → List Text
-texts_of = map (λ word. word.now)
-
-pub few_words : (words : List (Bor Text)) → length words < 2 → asked_unparsed (texts_of words) ≡ Some Filters
-few_words [] few = refl
-few_words (a ∷ []) few = refl
-few_words (a ∷ b ∷ words) few = absurd (omega arith)
-
-pub two_words : (words : List (Bor Text)) → 2 ≤ length words → length words < 3 → asked_unparsed (texts_of words) ≡ None
-two_words [] some few = absurd (omega arith)
-two_words (a ∷ []) some few = absurd (omega arith)
-two_words (a ∷ b ∷ []) some few = refl
-two_words (a ∷ b ∷ c ∷ words) some few = absurd (omega arith)
-
-pub more_words : (words : List (Bor Text)) (d e : Bor Text) → 3 ≤ length words
-    → line_asked (slice_index_or words 1 d).now (slice_index_or words 2 e).now ≡ asked_unparsed (texts_of words)
-more_words [] d e many = absurd (omega arith)
-more_words (a ∷ []) d e many = absurd (omega arith)
-more_words (a ∷ b ∷ []) d e many = absurd (omega arith)
-more_words (a ∷ b ∷ c ∷ words) d e many = refl

@@ -16,10 +16,8 @@ use Rattle.plist_forms.specs.Pair.{IsPair, IsRefusedPair}
 use Rattle.plist_forms.specs.Refusals.{IsRefused}
 use Rattle.plist_forms.specs.Status.{status_code}
 use Rattle.plist_forms.specs.declared.faults.Fault.{Fault}
-use Rattle.plist_forms.specs.declared.forms.Form.{Form}
 use Rattle.plist_forms.specs.declared.pairs.PairFault.{PairFault}
 use Rattle.plist_forms.specs.declared.pairs.PairFault.TheVariants.{First, Second}
-use Rattle.plist_forms.specs.Output.{IsOutputFault}
 use Rattle.plist_convert.specs.Verdicts.{verdict_line_of, verdict_status_for}
 use Rattle.plist_convert.specs.declared.answers.Answer.{Answer}
 use Rattle.plist_convert.specs.declared.answers.Task.{Task}
@@ -98,16 +96,10 @@ IsCheckAnswerOf named path octets s = IsJudged named path octets s ⊎ IsUncheck
 abbrev pub IsCheckAnswer : List ℕ → List ℕ → Said → Type 0
 IsCheckAnswer = IsCheckAnswerOf false
 
--- the line of a refusal of the bytes
-pub record IsRefusedAnswer (path octets : List ℕ) (s : Said) : Type 0 where
+-- the line of a refusal with this cause
+pub record IsRefusalFor (Cause : Fault → Type 0) (path : List ℕ) (s : Said) : Type 0 where
   pub fault : Fault
-  pub refused : IsRefused octets fault
-  pub says : Says s (refusal path fault)
-
--- the line of a refusal, for bytes that have no output in this form
-pub record IsOutputRefusal (form : Form) (path octets : List ℕ) (s : Said) : Type 0 where
-  pub fault : Fault
-  pub cause : IsOutputFault form octets fault
+  pub cause : Cause fault
   pub says : Says s (refusal path fault)
 
 -- the line of bytes that encode a value
@@ -118,7 +110,8 @@ pub record IsAcceptedAnswer (path octets : List ℕ) (s : Said) : Type 0 where
 
 -- the result of `lint`
 abbrev pub IsLintAnswer : List ℕ → List ℕ → Said → Type 0
-IsLintAnswer path octets s = IsAcceptedAnswer path octets s ⊎ IsRefusedAnswer path octets s
+IsLintAnswer path octets s =
+    IsAcceptedAnswer path octets s ⊎ IsRefusalFor (IsRefused octets) path s
 
 -- the result of a task for a file
 abbrev pub AnswersTask : Task → List ℕ → List ℕ → Said → Type 0

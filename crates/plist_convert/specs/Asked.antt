@@ -88,14 +88,10 @@ asked_at = option_and_then (λ entered. asked_in entered.0 entered.1)
 abbrev pub is_dash_line : Text → Bool
 is_dash_line word = starts_with nat_eq word (codes "-") && list_any (λ b. nat_eq b 32) word
 
--- `explain` of such a line
-abbrev pub line_asked : (command line : Text) → Option Asked
-line_asked command line =
+-- the request of arguments that are not parsed: the filter, and `explain` of such a line
+abbrev pub asked_unparsed : List Text → Option Asked
+asked_unparsed (_ ∷ (command ∷ (line ∷ _))) =
     if bytes_eq command (codes "explain") && is_dash_line line then Some (Explains (Some line))
     else None
-
--- the request of arguments that are not parsed: the filter, and `explain` of a line
-abbrev pub asked_unparsed : List Text → Option Asked
-asked_unparsed (_ ∷ (command ∷ (line ∷ _))) = line_asked command line
 asked_unparsed (_ ∷ (_ ∷ [])) = None
 asked_unparsed _ = Some Filters

@@ -20,12 +20,6 @@ ReadsAll files path to_come =
 abbrev pub IsUnopened : Option Files → FileName → Error → Type 0
 IsUnopened files path error = error_kind error ≢ kind.OutOfMemory ↔ Lacks files path
 
--- the refusal of a file that is not opened: 60 if out of memory, else 50
-abbrev pub IsUnopenedAs : Error → Fault → Type 0
-IsUnopenedAs error fault =
-    ((error_kind error ≡ kind.OutOfMemory) × (fault ≡ OutOfMemory 0))
-    ⊎ ((error_kind error ≢ kind.OutOfMemory) × (fault ≡ ReadFailed))
-
 -- the writer has written these bytes and no others, if the opener knows the files
 abbrev pub HasWritten : Option Files → Option (List ℕ) → List ℕ → Type 0
 HasWritten files contents octets = IfSome files (λ _. contents ≡ Some octets)

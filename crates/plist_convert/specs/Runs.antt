@@ -13,11 +13,11 @@ use Rattle.plist_forms.specs.declared.forms.Form.{Form}
 use Rattle.plist_forms.specs.declared.loading.TheConstants.{MAX_INPUT}
 use Rattle.plist_write.specs.Sending.{IsWritten}
 use Rattle.plist_write.specs.declared.faults.WriteFault.{WriteFault}
-use Rattle.plist_forms.specs.Output.{IsOutput}
+use Rattle.plist_forms.specs.Output.{IsOutput, IsOutputFault}
 use Rattle.plist_forms.specs.Transfer.{IsInput}
 use Rattle.plist_convert.specs.Files.{FileName, FileHolds, IsStored, IsUnloaded, SameFiles}
-use Rattle.plist_convert.specs.Answer.{IsCheckAnswerOf, IsLintAnswer, IsOutputRefusal}
-use Rattle.plist_convert.specs.Answer.{IsRefusedAnswer, IsSameAnswer, Said, explained_said, refusal}
+use Rattle.plist_convert.specs.Answer.{IsCheckAnswerOf, IsLintAnswer, IsRefusalFor}
+use Rattle.plist_convert.specs.Answer.{IsSameAnswer, Said, explained_said, refusal}
 use Rattle.plist_convert.specs.Ending.{Ends, HaveFailed}
 use Rattle.plist_convert.specs.State.{Ending, Input, State, Wanting}
 
@@ -155,7 +155,7 @@ pub record IsConverted (form : Form) (from to : FileName) (before after : State)
 unfoldable pub IsConvertRun : Form → FileName → FileName → State → State → ℕ → Type 0
 IsConvertRun form from to before after status =
     IsUnread from before after status
-    ⊎ (IsAnswered (IsOutputRefusal form from) from before after status
+    ⊎ (IsAnswered (λ octets. IsRefusalFor (IsOutputFault form octets) from) from before after status
     ⊎ IsConverted form from to before after status)
 
 -- the path of standard input and standard output in printed lines
@@ -175,7 +175,8 @@ pub record IsPrintedRun (path : FileName) (before after : State) (status : ℕ) 
 -- `print IN`
 unfoldable pub IsPrintRun : FileName → State → State → ℕ → Type 0
 IsPrintRun path before after status =
-    IsUnread path before after status ⊎ (IsAnswered (IsRefusedAnswer path) path before after status
+    IsUnread path before after status
+    ⊎ (IsAnswered (λ octets. IsRefusalFor (IsRefused octets) path) path before after status
     ⊎ IsPrintedRun path before after status)
 
 -- `explain WHAT`

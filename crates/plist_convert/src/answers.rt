@@ -1,9 +1,10 @@
 //! The result of each command for bytes that were loaded.
-ghost use Rattle.std.specs.Prelude.{◌≡◌, ◌++◌, IfOk, codes, option_map, string_bytes};
+ghost use Rattle.std.specs.Prelude.{IfOk, option_map, string_bytes};
+ghost use Rattle.plist_forms.specs.Status.{status_code};
 ghost use Rattle.plist_convert.specs.Answer.{AnswersTask, IsCheckAnswer, IsCheckAnswerOf};
 ghost use Rattle.plist_convert.specs.Answer.{IsLintAnswer, IsSameAnswer, Says};
-ghost use Rattle.plist_convert.specs.Answer.{accepted_said, equality_said, explained_said};
-ghost use Rattle.plist_convert.specs.Answer.{refusal, said_of, word_said};
+ghost use Rattle.plist_convert.specs.Answer.{explained_said, refusal, said, said_of};
+ghost use Rattle.plist_convert.specs.Answer.{word_said};
 
 use crate::verdicts::{verdict_line_of, verdict_status};
 use plist_canon::check_with_hasher;
@@ -86,7 +87,7 @@ pub fn lint_answer(alloc: Global, path: &str, octets: &[u8]) -> Result<Answer, A
     ensures { IfOk result (λ answer. IsLintAnswer path.now octets.now (said_of answer)) }
 {
     match judge_any(alloc, octets) {
-        Ok(()) => accepted(alloc, path),
+        Ok(()) => with_line_end(format!(in alloc; "{path}: OK")?, Status::Done),
         Err(fault) => refused(alloc, path, &fault),
     }
 }
@@ -127,7 +128,8 @@ pub fn same_answer<H: BuildHasher + Copy>(
         IsSameAnswer first.now second.now a.now b.now (said_of answer)) }
 {
     match same_files_with_hasher(alloc, hasher, a, b) {
-        Ok(equal) => equality(alloc, equal),
+        Ok(true) => with_line_end(String::from_str(alloc, "equal")?, Status::Done),
+        Ok(false) => with_line_end(String::from_str(alloc, "different")?, Status::Differs),
         Err(PairFault::First(fault)) => refused(alloc, first, &fault),
         Err(PairFault::Second(fault)) => refused(alloc, second, &fault),
     }
@@ -179,28 +181,10 @@ pub fn refused(alloc: Global, path: &str, fault: &Fault) -> Result<Answer, Alloc
     with_line_end(line, fault.end_status())
 }
 
-fn accepted(alloc: Global, path: &str) -> Result<Answer, AllocError>
-    ensures { IfOk result (λ answer. Says (said_of answer) (accepted_said path.now)) }
-{
-    let line = format!(in alloc; "{path}: OK")?;
-    with_line_end(line, Status::Done)
-}
-
-fn equality(alloc: Global, equal: bool) -> Result<Answer, AllocError>
-    ensures { IfOk result (λ answer. Says (said_of answer) (equality_said equal)) }
-{
-    if equal {
-        with_line_end(String::from_str(alloc, "equal")?, Status::Done)
-    } else {
-        with_line_end(String::from_str(alloc, "different")?, Status::Differs)
-    }
-}
-
 // Appends a line end.
 fn with_line_end(line: String, status: Status) -> Result<Answer, AllocError>
-    ensures text { IfOk result (λ answer.
-        string_bytes answer.text ≡ string_bytes line ++ codes "\n") }
-    ensures status { IfOk result (λ answer. answer.status ≡ status) }
+    ensures { IfOk result (λ answer.
+        Says (said_of answer) (said (string_bytes line) (status_code status))) }
 {
     let mut text = line;
     text.push('\n')?;

@@ -1,8 +1,8 @@
 //! The command line, as defined for `clap`.
 ghost use Rattle.std.specs.Prelude.{◌≡◌, IfOk, IsOkAnd, codes, false};
 ghost use Rattle.clap.specs.Words.{AddsSubcommand, app_of, new_app, rule_of};
-ghost use Rattle.plist_convert.specs.CommandLine.{IsConvert, IsProgram, any_words, file_word};
-ghost use Rattle.plist_convert.specs.CommandLine.{check as check_line, file_words, flag_word};
+ghost use Rattle.plist_convert.specs.CommandLine.{IsConvert, IsProgram, check as check_line};
+ghost use Rattle.plist_convert.specs.CommandLine.{any_words, file_word, file_words};
 ghost use Rattle.plist_convert.specs.CommandLine.{explain as explain_line, one_file, program_top};
 ghost use Rattle.plist_convert.specs.CommandLine.{same as same_line, some_files};
 
@@ -74,11 +74,10 @@ fn lint<'a>(alloc: Global) -> Result<Command<'a>, AllocError>
 fn check<'a>(alloc: Global) -> Result<Command<'a>, AllocError>
     ensures { IfOk result (λ command. app_of command ≡ check_line) }
 {
-    let named = flag(
-        alloc,
-        "with-filename",
-        "Print the path of a single file too",
-    );
+    let named = Arg::new(alloc, "with-filename")
+        .long("with-filename")
+        .action(ArgAction::SetTrue)
+        .help("Print the path of a single file too");
     described(alloc, "check", help::CHECK_ABOUT, help::CHECK_AFTER)
         .arg(several(alloc, "IN", "The files to read"))?
         .arg(named)
@@ -125,17 +124,6 @@ fn several<'a>(alloc: Global, id: &'a str, text: &'a str) -> Arg<'a>
     ensures local { result.global ≡ false }
 {
     Arg::new(alloc, id).required(true).num_args(1..).help(text)
-}
-
-// Returns a flag: `--` and its name.
-fn flag<'a>(alloc: Global, name: &'a str, text: &'a str) -> Arg<'a>
-    ensures rule { rule_of result ≡ flag_word name.entry.now }
-    ensures local { result.global ≡ false }
-{
-    Arg::new(alloc, name)
-        .long(name)
-        .action(ArgAction::SetTrue)
-        .help(text)
 }
 
 // Returns an optional argument with any number of values.

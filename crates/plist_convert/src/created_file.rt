@@ -194,7 +194,7 @@ fn write_some<O: Opens>(opener: &O, writer: &mut O::Writer, piece: &[u8]) -> io:
 }
 
 // Returns whether the error is that memory ran out.
-fn is_out_of_memory(error: &io::Error) -> bool
+pub(crate) fn is_out_of_memory(error: &io::Error) -> bool
     ensures { IsTrue result ↔ (error_kind error.now ≡ ErrorKind.OutOfMemory) }
 {
     match error.kind() {

@@ -4,15 +4,13 @@ ghost use Rattle.std.specs.Prelude.{IsErrOf, IsTrue, ℕ};
 ghost use Rattle.plist_forms.specs.Load.{octets_or};
 ghost use Rattle.plist_convert.specs.FileDisk.{IsFullAt, result_of};
 ghost use Rattle.plist_convert.specs.Files.{CountsFailure, FileHolds, LoadsFile, SameFiles, Stores};
-ghost use Rattle.plist_convert.specs.Opens.{HasFailing, IsUnfound, IsUnopenedAs, Settles};
+ghost use Rattle.plist_convert.specs.Opens.{HasFailing, IsUnfound, Settles};
 
-use crate::created_file::{CreatedFile, KnownTarget, Target};
+use crate::created_file::{CreatedFile, KnownTarget, Target, is_out_of_memory};
 use crate::opens::{Created, Opens, Steady};
 use plist_forms::{Fault, Form, convert_octets, load_unless};
 use std::alloc::{AllocError, Global};
 use std::hash::BuildHasher;
-use std::io;
-use std::io::ErrorKind;
 use std::marker::Brand;
 
 /// The files of an opener by path, with a count of the failures of their devices and the hasher for
@@ -167,17 +165,8 @@ fn octets_at<O: Opens>(
             let mut reader = reader;
             load_unless(alloc, &mut reader, known)
         }
-        Err(error) => Err(unopened(&error)),
-    }
-}
-
-// Returns the refusal of a file that cannot be opened.
-fn unopened(error: &io::Error) -> Fault
-    ensures { IsUnopenedAs error.now result }
-{
-    match error.kind() {
-        ErrorKind::OutOfMemory => Fault::OutOfMemory { sent: 0 },
-        _ => Fault::ReadFailed,
+        Err(error) if is_out_of_memory(&error) => Err(Fault::OutOfMemory { sent: 0 }),
+        Err(_) => Err(Fault::ReadFailed),
     }
 }
 

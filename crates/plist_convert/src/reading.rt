@@ -4,7 +4,7 @@ ghost use Rattle.clap.specs.Words.{all_of, app_of, first_of, found_of, rows_of};
 ghost use Rattle.clap.specs.Words.{subcommand_rows_of};
 ghost use Rattle.plist_convert.specs.Asked.{asked_by, asked_at, asked_unparsed, check_at};
 ghost use Rattle.plist_convert.specs.Asked.{convert_at, explain_at, form_of, is_dash_line, is_set};
-ghost use Rattle.plist_convert.specs.Asked.{line_asked, print_at, same_at};
+ghost use Rattle.plist_convert.specs.Asked.{print_at, same_at};
 ghost use Rattle.plist_convert.specs.CommandLine.{IsProgram};
 ghost use Rattle.plist_convert.specs.Reading.{IsReading};
 
@@ -40,22 +40,12 @@ pub fn read_words<'a>(alloc: Global, words: &'a [&'a str]) -> Result<Request<'a>
 fn unparsed_request<'a>(words: &[&'a str]) -> Option<Request<'a>>
     ensures { option_map asked_by result ≡ asked_unparsed (map (λ word. word.now) words.now) }
 {
-    if words.len() < 2 {
-        return Some(Request::Filter);
-    }
-    if words.len() < 3 {
-        return None;
-    }
-    line_request(words[1], words[2])
-}
-
-fn line_request<'a>(command: &str, line: &'a str) -> Option<Request<'a>>
-    ensures { option_map asked_by result ≡ line_asked command.now line.now }
-{
-    if command == "explain" && is_dash_line(line) {
-        Some(Request::Explain { what: Some(line) })
-    } else {
-        None
+    match words {
+        [] | [_] => Some(Request::Filter),
+        [_, command, line, ..] if *command == "explain" && is_dash_line(line) => {
+            Some(Request::Explain { what: Some(*line) })
+        }
+        _ => None,
     }
 }
 

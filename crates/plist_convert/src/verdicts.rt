@@ -2,26 +2,14 @@
 ghost use Rattle.std.specs.Prelude.{◌≡◌, IfOk, string_bytes};
 ghost use Rattle.plist_forms.specs.Status.{status_code};
 ghost use Rattle.plist_convert.specs.Verdicts.{verdict_line_of as verdict_line_for};
-ghost use Rattle.plist_convert.specs.Verdicts.{verdict_status_for, verdict_text};
+ghost use Rattle.plist_convert.specs.Verdicts.{verdict_status_for};
 
 use plist_canon::Verdict;
 use plist_forms::Status;
 use std::alloc::{AllocError, Global};
 
 // Returns the line of a verdict, without a line end, such as `canonical` or `broken C7 at object
-// 0`.
-fn verdict_line(alloc: Global, verdict: Verdict) -> Result<String, AllocError>
-    ensures { IfOk result (λ text. string_bytes text ≡ verdict_text verdict) }
-{
-    match verdict {
-        Verdict::Canonical => format!(in alloc; "canonical"),
-        Verdict::Broken { rule, object } => {
-            format!(in alloc; "broken C{rule} at object {object}")
-        }
-    }
-}
-
-// Returns the line of a verdict, after the path and `: ` if the file is to be named.
+// 0`, after the path and `: ` if the file is to be named.
 pub(crate) fn verdict_line_of(
     alloc: Global,
     named: bool,
@@ -31,7 +19,10 @@ pub(crate) fn verdict_line_of(
     ensures { IfOk result (λ text.
         string_bytes text ≡ verdict_line_for named path.now verdict) }
 {
-    let line = verdict_line(alloc, verdict)?;
+    let line = match verdict {
+        Verdict::Canonical => format!(in alloc; "canonical")?,
+        Verdict::Broken { rule, object } => format!(in alloc; "broken C{rule} at object {object}")?,
+    };
     if named {
         format!(in alloc; "{path}: {line}")
     } else {
