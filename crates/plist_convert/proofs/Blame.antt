@@ -1,6 +1,6 @@
 -- The exit status is 4 only if a device failed.
 use Rattle.std.proofs.Common.{arith, inl, inr, refl, sym, Err, List, [], ◌∷◌, None, Ok, Option, Result, Some, ℕ, ◌∙◌, ◌≡◌, ◌⊎◌}
-use Rattle.std.specs.Prelude.{◌≢◌, ◌<◌, ◌≤◌, Bool, true, false, max}
+use Rattle.std.specs.Prelude.{◌≢◌, Bool, true, false, max}
 use Rattle.std.specs.Bool.{◌==◌}
 use Rattle.std.proofs.lemmas.Bool.{cases_lt}
 use Rattle.clap.specs.Words.{Text}
@@ -18,7 +18,7 @@ use Rattle.plist_canon.specs.declared.checking.CheckFault.{CheckFault}
 use Rattle.plist_canon.specs.declared.checking.CheckFault.TheVariants as check
 use Rattle.plist_canon.specs.declared.checking.Verdict.{Verdict}
 use Rattle.plist_canon.specs.declared.checking.Verdict.TheVariants as verdict
-use Rattle.plist_forms.specs.Fault.{check_fault_for, code_of, status_for, write_fault_for}
+use Rattle.plist_forms.specs.Fault.{check_fault_for, code_of, status_for}
 use Rattle.plist_forms.specs.Refusals.{FaultStands, IsRefused}
 use Rattle.plist_forms.specs.declared.faults.Fault.{Fault}
 use Rattle.plist_forms.specs.declared.faults.Fault.TheVariants.{Binary, Text as OfText, ReadFailed, WriteFailed, InputTooLarge, OutOfMemory}

@@ -3,7 +3,7 @@ use Rattle.std.proofs.Common.{inl, inr, refl, Err, List, Ok, Option, Result, ℕ
 use Rattle.plist_forms.specs.Fault.{write_fault_for}
 use Rattle.plist_forms.specs.Refusals.{IsRefused}
 use Rattle.plist_forms.specs.declared.faults.Fault.{Fault}
-use Rattle.plist_forms.specs.declared.faults.Fault.TheVariants.{Binary, Text, NotInOpenStep, ReadFailed, WriteFailed, InputTooLarge, OutOfMemory}
+use Rattle.plist_forms.specs.declared.faults.Fault.TheVariants.{WriteFailed}
 use Rattle.plist_forms.specs.declared.forms.Form.{Form}
 use Rattle.plist_write.specs.declared.faults.WriteFault.{WriteFault}
 use Rattle.plist_forms.specs.Output.{IsOutputFault}

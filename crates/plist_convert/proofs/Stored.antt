@@ -1,6 +1,6 @@
 -- Storing in a file that is created at its first write, and then closed.
 use Rattle.std.proofs.Common.{ap, arith, refl, sym, inl, inr, Err, List, None, Ok, Option, Result, Some, [], ◌∷◌, ◌++◌, ℕ, ◌≡◌, ◌∙◌, ◌⊎◌}
-use Rattle.std.specs.Prelude.{◌≢◌, ◌<◌, ◌≤◌, Bool, IfSome, cond, false, length, option_map, take, true}
+use Rattle.std.specs.Prelude.{◌≢◌, ◌<◌, Bool, IfSome, cond, false, length, option_map, take, true}
 use Rattle.std.specs.Option.{ForSome}
 use Rattle.std.specs.Str.{bytes_eq}
 use Rattle.std.specs.Io.KnownBytes.{Appends}

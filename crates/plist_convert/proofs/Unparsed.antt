@@ -3,7 +3,7 @@ use Rattle.std.proofs.Common.{refl, List, None, Ok, Option, Some, ◌≡◌}
 use Rattle.std.specs.Prelude.{IfSome}
 use Rattle.clap.specs.Words.{Text}
 use Rattle.plist_convert.specs.Asked.{Asked, asked_by, asked_unparsed}
-use Rattle.plist_convert.specs.Program.{AreTaken, AskFor}
+use Rattle.plist_convert.specs.Program.{AskFor}
 use Rattle.plist_convert.specs.Reading.{IsReading}
 use Rattle.plist_convert.specs.declared.request.Request.{Request}
 

@@ -33,8 +33,8 @@ abbrev pub IsFullAt : Form → List ℕ → ℕ → Fault → Type 0
 IsFullAt form octets limit (WriteFailed sent) = IsFull form octets limit sent
 IsFullAt form octets limit _ = Unit {0}
 
--- The result of a store whose file was closed: what was lost then was not written, and a device that
--- ran out of memory is 60 in place of 51.
+-- The result of a store whose file was closed: what was lost then was not written, and a device
+-- that ran out of memory is 60 in place of 51.
 abbrev pub result_of : Result ℕ Fault → (is_kept needs_memory : Bool) → Result ℕ Fault
 result_of (Ok sent) false _ = Err (WriteFailed sent)
 result_of (Err (WriteFailed sent)) _ true = Err (OutOfMemory sent)
