@@ -1,6 +1,6 @@
 -- Each fault is determined by its unit, its number and its place, up to faults with the same
 -- refusal and the same line.
-use Rattle.std.proofs.Common.{◌≡◌, ◌∙◌, ℕ, Some, refl, sym, ap, subst}
+use Rattle.std.proofs.Common.{◌≡◌, ◌∙◌, ℕ, Option, Some, refl, sym, ap, subst}
 use Rattle.std.proofs.lemmas.Option.{same_Some}
 use Rattle.plist_binary.specs.declared.fault.BinaryFault.TheVariants as binary
 use Rattle.ostep_text.specs.declared.fault.TextFault.TheVariants as text
@@ -8,17 +8,21 @@ use Rattle.plist_forms.specs.Fault.{code_of, fault_text, report_of}
 use Rattle.plist_forms.specs.declared.faults.Fault.{Fault}
 use Rattle.plist_forms.specs.declared.faults.Fault.TheVariants.{Binary, Text, NotInOpenStep, ReadFailed, WriteFailed, InputTooLarge, OutOfMemory}
 use Rattle.plistconv_c.specs.Lines.{fault_at}
-use Rattle.plistconv_c.specs.Refusals.{place_of, refusal_of, unit_of}
+use Rattle.plistconv_c.specs.Refusals.{refusal_of}
 use Rattle.plistconv_c.specs.declared.refusals.Refused.{Refused}
 
--- the fault for the unit, the number and the place of a fault
+-- the fault for the unit, the number and the place of a refusal
+abbrev fault_for : Refused → Option Fault
+fault_for reported = fault_at reported.unit reported.number reported.place
+
+-- the fault for those of a fault
 pub record IsNamed (fault : Fault) : Type 0 where
   pub one : Fault
-  pub found : fault_at (unit_of (report_of fault).1) (code_of fault) (place_of (report_of fault).1) ≡ Some one
+  pub found : fault_for (refusal_of fault 0) ≡ Some one
   pub reported : (input : ℕ) → refusal_of one input ≡ refusal_of fault input
   pub printed : fault_text one ≡ fault_text fault
 
-itself : (fault : Fault) → fault_at (unit_of (report_of fault).1) (code_of fault) (place_of (report_of fault).1) ≡ Some fault → IsNamed fault
+itself : (fault : Fault) → fault_for (refusal_of fault 0) ≡ Some fault → IsNamed fault
 itself fault found = record { one = fault; found = found; reported = λ _. refl; printed = refl }
 
 pub named : (fault : Fault) → IsNamed fault
@@ -68,7 +72,7 @@ named (OutOfMemory sent) = itself _ refl
 -- the fault for a refusal has the same refusal and the same line as the fault that it describes
 pub record IsNamedBy (fault : Fault) (reported : Refused) : Type 0 where
   pub one : Fault
-  pub found : fault_at reported.unit reported.number reported.place ≡ Some one
+  pub found : fault_for reported ≡ Some one
   pub reported_is : reported ≡ refusal_of one reported.input
   pub printed : fault_text one ≡ fault_text fault
 

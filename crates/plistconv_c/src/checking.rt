@@ -1,7 +1,7 @@
 //! Checking whether a binary file is canonical.
 ghost use Rattle.std.specs.Prelude.{◌≡◌, ◌≢◌, ◌↔◌, ◌≤◌, length, IfOk, IfErr, OnOk};
 ghost use Rattle.plist_object.specs.Layout.{IsLaid};
-ghost use Rattle.plist_canon.specs.Checking.{IsCheckFault, IsVerdict};
+ghost use Rattle.plist_canon.specs.Checking.{IsVerdict};
 ghost use Rattle.plist_canon.specs.Locality.{IsCanonical};
 ghost use Rattle.plist_forms.specs.declared.loading.TheConstants.{MAX_INPUT};
 ghost use Rattle.plistconv_c.specs.Answers.{IsChecked, IsUnchecked, finding_of};
@@ -10,7 +10,7 @@ ghost use Rattle.plistconv_c.specs.Inputs.{IsCheckRefused};
 use crate::Refused;
 use crate::inputs::admit;
 use crate::keys::keyed_hasher;
-use plist_canon::{CheckFault, Verdict, check, check_with_hasher};
+use plist_canon::{Verdict, check, check_with_hasher};
 use plist_forms::Fault;
 use std::alloc::Global;
 
@@ -61,7 +61,8 @@ pub extern "C" fn plistconv_check(
     }
 }
 
-// Checks a file like [`verdict_of`]. Refuses more than `MAX_INPUT` bytes.
+// Checks whether a file is canonical. Refuses more than `MAX_INPUT` bytes, and hashes scalars with
+// the key, if there is one.
 fn checked(alloc: Global, octets: &[u8], key: &[u8; 16]) -> Result<Verdict, Fault>
     ensures fault { IfErr result (IsCheckRefused octets.now) }
     ensures within { OnOk result (length octets.now ≤ MAX_INPUT) }
@@ -71,23 +72,9 @@ fn checked(alloc: Global, octets: &[u8], key: &[u8; 16]) -> Result<Verdict, Faul
         (λ verdict. (verdict ≡ Verdict.Canonical) ↔ IsCanonical octets.now) }
 {
     admit(octets)?;
-    match verdict_of(alloc, octets, key) {
-        Ok(verdict) => Ok(verdict),
-        Err(cause) => Err(Fault::from(cause)),
-    }
-}
-
-// Checks whether a file is canonical. Hashes scalars with the key, if there is one.
-fn verdict_of(alloc: Global, octets: &[u8], key: &[u8; 16]) -> Result<Verdict, CheckFault>
-    ensures fault { IfErr result (IsCheckFault octets.now) }
-    ensures laid { IfOk result (λ _. IsLaid octets.now) }
-    ensures verdict { IfOk result (IsVerdict octets.now) }
-    ensures canonical { IfOk result
-        (λ verdict. (verdict ≡ Verdict.Canonical) ↔ IsCanonical octets.now) }
-{
     match keyed_hasher(key) {
-        Some(hasher) => check_with_hasher(alloc, hasher, octets),
-        None => check(alloc, octets),
+        Some(hasher) => Ok(check_with_hasher(alloc, hasher, octets)?),
+        None => Ok(check(alloc, octets)?),
     }
 }
 

@@ -1,6 +1,6 @@
 //! A refusal as a number and a place.
 ghost use Rattle.std.specs.Prelude.{◌≡◌, ◌<◌};
-ghost use Rattle.plistconv_c.specs.Refusals.{no_refusal, place_of, refusal_of, unit_of};
+ghost use Rattle.plistconv_c.specs.Refusals.{no_refusal, refusal_of, unit_and_place};
 
 use plist_forms::Fault;
 use plist_value::Place;
@@ -35,11 +35,11 @@ impl Refused {
     pub(crate) fn of(fault: &Fault, input: u8) -> Refused
         ensures { result ≡ refusal_of fault.now input }
     {
-        let report = fault.report();
+        let (unit, place) = unit_and_place(fault.report().1);
         Refused {
-            place: place(report.1),
+            place,
             number: fault.code(),
-            unit: unit(report.1),
+            unit,
             input,
         }
     }
@@ -55,24 +55,14 @@ impl Refused {
     }
 }
 
-fn unit(place: Place) -> u8
-    ensures { result ≡ unit_of place }
+// Returns the unit of a place, and the place in that unit.
+fn unit_and_place(place: Place) -> (u8, u64)
+    ensures { result ≡ unit_and_place place }
 {
     match place {
-        Place::Nowhere => 0,
-        Place::Object(_) => 1,
-        Place::Octet(_) => 2,
-        Place::After(_) => 3,
-    }
-}
-
-fn place(place: Place) -> u64
-    ensures { result ≡ place_of place }
-{
-    match place {
-        Place::Nowhere => 0,
-        Place::Object(object) => object,
-        Place::Octet(octet) => octet as u64,
-        Place::After(sent) => sent,
+        Place::Nowhere => (0, 0),
+        Place::Object(object) => (1, object),
+        Place::Octet(octet) => (2, octet as u64),
+        Place::After(sent) => (3, sent),
     }
 }
