@@ -36,7 +36,8 @@ impl<'a> BinFile<'a> {
         ensures valid { IfOk result (λ object. IsContent (held_of object)) }
     {
         let octets = self.octets_at(n)?;
-        reading::held(octets, self.trailer.reference_width)
+        let (object, _) = reading::object(octets, self.trailer.reference_width)?;
+        Ok(object)
     }
 
     /// Returns the string that object `n` contains, or `None` if it contains something else or
@@ -50,28 +51,10 @@ impl<'a> BinFile<'a> {
         ensures none { IfNone result
             (¬ ((units : List ℕ) × Holds (octets_of self.now) n (holds_scalar (text units)))) }
     {
-        if let Some(text) = self.ascii_text(n) {
-            return Some(text);
-        }
         match self.object(n) {
             Ok(Object::Scalar(ScalarRef::Text(text))) => Some(text),
             _ => None,
         }
-    }
-
-    // Returns the string of object `n` if it is an ASCII string, as most are.
-    #[inline(always)]
-    #[tactic(auto, unfolding(crate::specs::Places::what_holds, crate::specs::Places::object_at))]
-    fn ascii_text(&self, n: u64) -> Option<TextRef<'a>>
-        requires { n < (trailer_of (octets_of self.now)).count }
-        ensures some { IfSome result
-            (λ t. what_holds (octets_of self.now) n ≡ Ok (holds_scalar (text (units_of t)))) }
-        ensures valid { IfSome result (λ t. AreUnits (units_of t)) }
-    {
-        let Ok(octets) = self.octets_at(n) else {
-            return None;
-        };
-        reading::ascii_text(octets)
     }
 
     /// Returns the number of bytes of the string of object `n` if it is marked as an ASCII string

@@ -1,15 +1,13 @@
 //! Decodes the object at the start of a byte slice, which reaches up to the offset table, and
 //! returns the remaining bytes.
 ghost use Rattle.std.specs.Prelude.{◌≡◌, ◌≢◌, ◌+◌, ◌*◌, ◌<◌, ◌≤◌, ◌/◌, ◌%◌, length};
-ghost use Rattle.std.specs.Prelude.{IfOk, IfSome, Ok, ℕ};
+ghost use Rattle.std.specs.Prelude.{IfOk};
 ghost use Rattle.plist_object.specs.Objects.{IsContent, holds_scalar, cut, integer_length};
 ghost use Rattle.plist_object.specs.Objects.{ascii_length, count_or_zero, content, whole_in};
 ghost use Rattle.plist_object.specs.Objects.{simple_object, whole_object, real_object};
 ghost use Rattle.plist_object.specs.Objects.{moment_object, data_object, ascii_object, wide_object};
 ghost use Rattle.plist_object.specs.Objects.{list_object, table_object, marked_object, object_in};
-ghost use Rattle.plist_object.specs.Views.{Gives, first_of, held_of};
-ghost use Rattle.plist_value.specs.Plist.{AreUnits, text};
-ghost use Rattle.plist_value.specs.Texts.{units_of};
+ghost use Rattle.plist_object.specs.Views.{Gives, held_of};
 ghost use Rattle.plist_value.specs.Plist as kind;
 ghost use Rattle.plist_value.specs.Wholes.{integer_of};
 
@@ -181,24 +179,6 @@ fn wide(octets: &[u8], low: u8) -> Read<'_, Object<'_>>
     Ok((Object::Scalar(ScalarRef::Text(text)), rest))
 }
 
-// Returns the string of the object at the start of the bytes, if it is an ASCII string.
-#[inline(always)]
-#[tactic(auto, unfolding(crate::specs::Objects::marked_object))]
-pub(crate) fn ascii_text(octets: &[u8]) -> Option<TextRef<'_>>
-    ensures some { IfSome result (λ t. (width : ℕ)
-        → first_of (object_in width octets.entry.now) ≡ Ok (holds_scalar (text (units_of t)))) }
-    ensures valid { IfSome result (λ t. AreUnits (units_of t)) }
-{
-    let (marker, octets) = octets.split_first()?;
-    if marker / 16 != ASCII {
-        return None;
-    }
-    match ascii(octets, marker % 16) {
-        Ok((Object::Scalar(ScalarRef::Text(text)), _)) => Some(text),
-        _ => None,
-    }
-}
-
 // Returns the number of bytes of the object at the start, if it is marked as an ASCII string and
 // not cut, and else 0. Other objects that are no strings are refused without reading what they
 // contain.
@@ -222,6 +202,7 @@ fn length_in(octets: &[u8], low: u8) -> u64
 
 // Decodes the object at the start of the bytes, with references of `width` bytes each. Returns its
 // content, and the bytes after the object.
+#[inline(always)]
 #[tactic(auto, unfolding(crate::specs::Objects::marked_object))]
 pub(crate) fn object(octets: &[u8], width: u8) -> Read<'_, Object<'_>>
     requires width_least { 1 ≤ width }
@@ -246,44 +227,5 @@ pub(crate) fn object(octets: &[u8], width: u8) -> Read<'_, Object<'_>>
         SET => Err(ObjectFault::SetObject),
         TABLE => table(octets, low, width),
         _ => Err(ObjectFault::BadMarker),
-    }
-}
-
-// Decodes like `object`, but returns only the content. Each kind returns directly, which is faster
-// than discarding the remaining bytes afterwards.
-#[tactic(auto, unfolding(crate::specs::Objects::marked_object))]
-pub(crate) fn held(octets: &[u8], width: u8) -> Result<Object<'_>, ObjectFault>
-    requires width_least { 1 ≤ width }
-    requires width_most { width ≤ 8 }
-    ensures read { Gives held_of result (first_of (object_in width octets.entry.now)) }
-    ensures valid { IfOk result (λ object. IsContent (held_of object)) }
-{
-    let Some((marker, octets)) = octets.split_first() else {
-        return Err(ObjectFault::CutObject);
-    };
-    let low = marker % 16;
-    match marker / 16 {
-        SIMPLE => first(simple(octets, low)),
-        WHOLE => first(whole(octets, low)),
-        REAL => first(real(octets, low)),
-        MOMENT => first(moment(octets, low)),
-        DATA => first(data(octets, low)),
-        ASCII => first(ascii(octets, low)),
-        WIDE => first(wide(octets, low)),
-        UID => Err(ObjectFault::UidObject),
-        LIST => first(list(octets, low, width)),
-        SET => Err(ObjectFault::SetObject),
-        TABLE => first(table(octets, low, width)),
-        _ => Err(ObjectFault::BadMarker),
-    }
-}
-
-#[inline(always)]
-fn first<'a>(read: Read<'a, Object<'a>>) -> Result<Object<'a>, ObjectFault>
-    ensures { result ≡ first_of read.entry }
-{
-    match read {
-        Ok((object, _)) => Ok(object),
-        Err(fault) => Err(fault),
     }
 }

@@ -1,7 +1,7 @@
 use Rattle.std.proofs.Common.{◌≡◌, ◌+◌, ◌≤◌, ◌++◌, drop, length, vec_len, vec_capacity}
 use Rattle.plist_value.specs.Texts.{units_of}
 use Rattle.plist_object.specs.Spelling.{references}
-use Rattle.plist_object.proofs.units.push_units.Given as goal
+use Rattle.plist_object.proofs.units.push_wide.Given as goal
 
 abbrev pub invariant-loop-i : goal.invariant-loop-i
 invariant-loop-i l =
