@@ -1,8 +1,7 @@
 -- Setting one bit in a list of words.
-use Rattle.std.proofs.Common.{◌≡◌, ◌⊎◌, ℕ, ◌*◌, ◌/◌, ◌%◌, ◌^◌, ◌<◌, ◌≤◌, ◌∙◌, List, length, get_or, set, replicate, sym, ap, true, inl, inr, arith, w64, eqb, eq-eqb, eqb-true}
+use Rattle.std.proofs.Common.{◌≡◌, ℕ, ◌*◌, ◌/◌, ◌%◌, ◌^◌, ◌<◌, ◌≤◌, ◌∙◌, List, length, get_or, set, replicate, sym, ap, true, inl, inr, arith, w64, eqb, eq-eqb, eqb-true}
 use Rattle.std.specs.Prelude.{◌↔◌, bit_and, bit_or}
 use Rattle.std.specs.Int.{bit_at}
-use Rattle.std.specs.Int.Bits.{or_zero_r}
 use Rattle.std.proofs.lemmas.Bool.{cases_eq}
 use Rattle.std.proofs.lemmas.List.{get_or-set_same, get_or-set_other, get_or_past, get_or-replicate}
 use Rattle.std.proofs.lemmas.Grind.{get_or_default_zero}
@@ -63,30 +62,6 @@ module _ (words : List ℕ) (n : ℕ) (within : n / 64 < length words) where
   bits_kept m has = elim (cases_eq (m / 64) (n / 64)) [
     | inl is ↦ same_word m is has
     | inr apart ↦ other_word m apart has
-  ]
-
-  pub words_kept : (m : ℕ) → IsSet words m → IsSet (set words (n / 64) word) m
-  unfolding IsSet
-  words_kept m has = elim (cases_eq (m / 64) (n / 64)) [
-    | inl is ↦ (
-        let here : get_or words (n / 64) ones ≡ word = get_or_default_zero words (n / 64) ones within in
-        let had : bit_at word (m % 64) ≡ 1 = rw (is, here) at has in
-        rw (is, get_or-set_same words (n / 64) word ones within) had
-        )
-    | inr apart ↦ rw (get_or-set_other words (n / 64) (m / 64) word ones apart) has
-  ]
-
-  -- the bit is set if the factor is 1, and not if it is 0
-  abbrev joined_if : ℕ → ℕ
-  joined_if k = bit_or word (k * 2 ^ (n % 64) % 2 ^ 64)
-
-  pub kept_if : (k : ℕ) → (k ≡ 1) ⊎ (k ≡ 0) → (m : ℕ) → IsSet words m → IsSet (set words (n / 64) (joined_if k)) m
-  kept_if k cases m has = elim cases [
-    | inl one ↦ rw one (bits_kept m has)
-    | inr zero ↦ (
-        let none : k * 2 ^ (n % 64) % 2 ^ 64 ≡ 0 = rw zero (omega arith) in
-        rw (none, or_zero_r word) (words_kept m has)
-        )
   ]
 
 -- words of zeros have no bit set

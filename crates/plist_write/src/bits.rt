@@ -1,10 +1,9 @@
 //! Maps each scalar to a bit, like a Bloom filter with one hash function. Several scalars may share
 //! a bit; if a bit is not set, no equal scalar has set it.
-ghost use Rattle.std.specs.Prelude.{◌≡◌, ◌≤◌, ◌↔◌, ℕ, IsTrue, IfOk, bit_and};
+ghost use Rattle.std.specs.Prelude.{◌≡◌, ◌≤◌, ◌↔◌, IsTrue, IfOk, bit_and};
 ghost use Rattle.plist_value.specs.Scalars.{content_of};
-ghost use Rattle.plist_write.specs.Bits.{HasBit, IsClear, IsSet, KeepsBits};
-ghost use Rattle.plist_write.specs.Bits.{any_bit_of, bit_of, fast_hash, hash_of, as_u64};
-ghost use Rattle.plist_write.specs.Bits.{strong_hash};
+ghost use Rattle.plist_write.specs.Bits.{HasBit, IsClear, KeepsBits, any_bit_of, bit_of};
+ghost use Rattle.plist_write.specs.Bits.{fast_hash, hash_of, as_u64, strong_hash};
 
 use crate::scalar_numbers::is_long_data;
 use plist_value::ScalarRef;
@@ -37,7 +36,11 @@ impl Bits {
     pub(crate) fn has(&self, bit: u32) -> bool
         ensures { IsTrue result ↔ HasBit self.now bit }
     {
-        is_set(&self.words, bit)
+        let index = bit as usize / 64;
+        if index >= self.words.len() {
+            return true;
+        }
+        self.words[index] >> (bit % 64) & 1 == 1
     }
 
     #[inline(always)]
@@ -45,38 +48,10 @@ impl Bits {
         ensures set { HasBit self.new bit }
         ensures kept { KeepsBits self.old self.new }
     {
-        self.set_if(bit, true);
-    }
-
-    // Sets the bit if `wanted`, without a branch that the processor could mispredict.
-    #[inline(always)]
-    pub(crate) fn set_if(&mut self, bit: u32, wanted: bool)
-        ensures set { IsTrue wanted → HasBit self.new bit }
-        ensures kept { KeepsBits self.old self.new }
-    {
-        set_bit_if(&mut self.words, bit, wanted);
-    }
-}
-
-#[inline(always)]
-fn is_set(words: &[u64], bit: u32) -> bool
-    ensures { IsTrue result ↔ IsSet words.now bit }
-{
-    let index = bit as usize / 64;
-    if index >= words.len() {
-        return true;
-    }
-    words[index] >> (bit % 64) & 1 == 1
-}
-
-#[inline(always)]
-fn set_bit_if(words: &mut [u64], bit: u32, wanted: bool)
-    ensures set { IsTrue wanted → IsSet words.new bit }
-    ensures kept { (n : ℕ) → IsSet words.old n → IsSet words.new n }
-{
-    let index = bit as usize / 64;
-    if index < words.len() {
-        words[index] |= u64::from(wanted) << (bit % 64);
+        let index = bit as usize / 64;
+        if index < self.words.len() {
+            self.words[index] |= 1 << (bit % 64);
+        }
     }
 }
 

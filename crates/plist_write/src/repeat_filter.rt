@@ -95,7 +95,9 @@ fn seen_again(alloc: Global, mask: u32, bits: &[u32]) -> Result<Bits, AllocError
     let mut once = Bits::new(alloc, mask)?;
     let mut again = Bits::new(alloc, mask)?;
     for bit in bits {
-        again.set_if(*bit, once.has(*bit));
+        if once.has(*bit) {
+            again.set(*bit);
+        }
         once.set(*bit);
     }
     Ok(again)
