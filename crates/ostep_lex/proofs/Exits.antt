@@ -8,13 +8,6 @@ use Rattle.std.proofs.lemmas.Result.{err_from_is_err_and}
 pub passed_on : {T E : Type 0} (P : E → Type 0) (fault : E) (r : Result T E) → IsErrAnd r (λ y. y ≡ fault) → P fault → IfErr r P
 passed_on P fault r h p = let e = err_from_is_err_and r h in rw (e.1, e.2) p
 
--- there is no success
-pub no_ok : {T E : Type 0} (P : T → Type 0) (Q : E → Type 0) (r : Result T E) → IsErrAnd r Q → IfOk r P
-no_ok P Q r h = let e = err_from_is_err_and r h in rw (e.1) tt
-
-pub none_ok : {T E : Type 0} (P : Type 0) (Q : E → Type 0) (r : Result T E) → IsErrAnd r Q → OnOk r P
-none_ok P Q r h = let e = err_from_is_err_and r h in rw (e.1) tt
-
 pub on_ok : {T E : Type 0} (P : Type 0) (r : Result T E) → P → OnOk r P
 on_ok P (Ok x) p = p
 on_ok P (Err e) p = tt

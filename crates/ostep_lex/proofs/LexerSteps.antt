@@ -8,7 +8,7 @@ use Rattle.ostep_lex.specs.Gap
 use Rattle.ostep_lex.specs.Gap.{LineComment, BlockComment, NeverCloses, GapPiece, Gap, closes_comment, begins_gap, begins_comment}
 use Rattle.ostep_lex.specs.declared.cursor.Cursor.{Cursor}
 use Rattle.ostep_lex.specs.Encoding.{offset, Offsets, offsets_of}
-use Rattle.ostep_lex.specs.Cursor.{ahead, offsets_in, offset_at, SameInput, PassesPiece, PassesGap, PassesToken, Opens, IsAfter, UnlessMemory, PassesStretch, PassesRun, PassesQuoted, AddsToken}
+use Rattle.ostep_lex.specs.Cursor.{ahead, offsets_in, offset_at, SameInput, PassesPiece, PassesGap, PassesToken, Opens, IsAfter, UnlessMemory, PassesStretch, PassesRun, PassesQuoted}
 use Rattle.ostep_lex.specs.declared.fault.LexFault.TheVariants.{UnclosedComment, UnexpectedCharacter}
 use Rattle.ostep_lex.specs.Stands.{FaultAt, White, LacksMark, QuotedFault, OctetsFault, begins_other, FaultAfterGap, HasFault, HasXml, begins_xml, StandsInTokens}
 use Rattle.ostep_lex.specs.Stands
@@ -306,13 +306,6 @@ run_gapless c text rest e r s =
 passes : (lexeme : Lexeme) (old start end : Cursor) → Gap (ahead old) (ahead start) → SameInput old start → PassesToken lexeme start end
     → PassesPlaced (record { lexeme = lexeme; start = offset (offsets_in old) (ahead start); end = offset (offsets_in old) (ahead end) }) old end
 passes lexeme old start end g i t = record { from = ahead start; gap = g; token_at = t.token; start = refl; end = refl; input = t.input ∙ i }
-
-pub adds_token : (lexeme : Lexeme) (old start end : Cursor) → Gap (ahead old) (ahead start) → SameInput old start → PassesToken lexeme start end → AddsToken lexeme old end
-adds_token lexeme old start end g i t = record {
-  token = record { lexeme = lexeme; start = offset (offsets_in old) (ahead start); end = offset (offsets_in old) (ahead end) };
-  is = refl;
-  stands = λ octets tokens b. after_more b (passes lexeme old start end g i t);
-}
 
 pub adds_shorter : (lexeme : Lexeme) (old start end : Cursor) → Gap (ahead old) (ahead start) → SameInput old start → PassesToken lexeme start end → length (ahead end) < length (ahead old)
 adds_shorter lexeme old start end g i t = placed_shorter (passes lexeme old start end g i t)

@@ -23,10 +23,9 @@ use Rattle.ostep_lex.specs.Octets.{OctetsPiece, Octets}
 use Rattle.ostep_lex.specs.declared.source.Source.{Source}
 use Rattle.ostep_lex.specs.declared.source.Source.TheVariants.{Utf8}
 use Rattle.ostep_lex.specs.Source.{IsWhole}
-use Rattle.ostep_lex.specs.Pairs.{Pairs, IsDigitOf, IsPair, AppendsPairs, AppendsFront, AppendsLead}
 use Rattle.ostep_lex.specs.declared.cursor.Cursor.{Cursor}
 use Rattle.ostep_lex.specs.declared.fault.LexFault.{LexFault}
-use Rattle.ostep_lex.specs.Cursor.{ahead, PassesPairs}
+use Rattle.ostep_lex.specs.Cursor.{ahead}
 use Rattle.ostep_lex.proofs.TextLemmas.{whole_utf8}
 use Rattle.ostep_lex.proofs.StretchLemmas.{AsciiFront}
 
@@ -164,93 +163,3 @@ odd_fault p at c text rest e h d a = rw (a, e) (Stands.odd h d)
 
 pub cut_data_fault : (p : Offsets) (at : ℕ) (text : List ℕ) → text ≡ [] → at ≡ offset p text → OctetsFault p text (BadData at)
 cut_data_fault p at text e a = rw (a, e) Stands.cut_data
-
-ascii : (c : ℕ) → is_digit c 16 ≡ true → c < 128
-ascii c h = grind (arith, nat_tests)
-
-pub one_pair : {text second after : List ℕ} {c d high low : ℕ} → text ≡ c ∷ second → second ≡ d ∷ after → IsDigitOf c high → IsDigitOf d low
-    → IsPair text (high * 16 + low) after
-one_pair {text} {second} {after} {c} {d} {high} {low} e f h l = record {
-  high = c;
-  low = d;
-  first = e ∙ ap (λ w. c ∷ w) f;
-  pair = rw (h.valued, l.valued) (Pairs.more h.hexadecimal l.hexadecimal Pairs.none);
-}
-
-pairs-append : {xs us ys vs : List ℕ} → Pairs xs us → Pairs ys vs → Pairs (xs ++ ys) (us ++ vs)
-pairs-append Pairs.none q = q
-pairs-append (Pairs.more h l p) q = Pairs.more h l (pairs-append p q)
-
-pub pairs_none : (octets text : List ℕ) → AppendsPairs octets octets text text
-pairs_none octets text = record { digits = []; values = []; pairs = Pairs.none; split = refl; appended = sym (append-nil octets) }
-
-pub pairs_more : {octets found more text rest after : List ℕ} {octet : ℕ} → AppendsPairs octets found text rest → IsPair rest octet after → more ≡ found ++ octet ∷ []
-    → AppendsPairs octets more text after
-pairs_more {octets} {found} {more} {text} {rest} {after} {octet} a p e = record {
-  digits = a.digits ++ p.high ∷ p.low ∷ [];
-  values = a.values ++ octet ∷ [];
-  pairs = pairs-append a.pairs p.pair;
-  split = a.split ∙ ap (λ w. a.digits ++ w) p.first ∙ sym (append_assoc a.digits (p.high ∷ p.low ∷ []) after);
-  appended = e ∙ ap (λ w. w ++ octet ∷ []) a.appended ∙ append_assoc octets a.values (octet ∷ []);
-}
-
--- the characters of pairs of digits in UTF-8 are their bytes, and a text follows them
-front_text : {digits values : List ℕ} (rest : List ℕ) → Pairs digits values → IsUtf8 (digits ++ rest) → AsciiFront digits rest
-front_text rest Pairs.none u = record { utf8 = u; characters = refl }
-front_text rest (Pairs.more {c = c} {d = d} {digits = cs} h l p) u =
-    let e : c ∷ d ∷ (cs ++ rest) ≡ encode c ++ (d ∷ (cs ++ rest)) = sym (ap (λ w. w ++ (d ∷ (cs ++ rest))) (encode_ascii c (ascii c h))) in
-    let v = IsUtf8-past_char (c ∷ d ∷ (cs ++ rest)) (d ∷ (cs ++ rest)) c u e in
-    let f : d ∷ (cs ++ rest) ≡ encode d ++ (cs ++ rest) = sym (ap (λ w. w ++ (cs ++ rest)) (encode_ascii d (ascii d l))) in
-    let r = front_text rest p (IsUtf8-past_char (d ∷ (cs ++ rest)) (cs ++ rest) d v f) in
-    record {
-      utf8 = r.utf8;
-      characters = chars_past_char (c ∷ d ∷ (cs ++ rest)) (d ∷ (cs ++ rest)) c u e
-          ∙ ap (λ w. c ∷ w) (chars_past_char (d ∷ (cs ++ rest)) (cs ++ rest) d v f ∙ ap (λ w. d ∷ w) r.characters);
-    }
-
-pub pairs_text : {octets more text after : List ℕ} → AppendsPairs octets more text after → IsUtf8 text → AppendsFront octets more text after
-pairs_text {octets} {more} {text} {after} a u =
-    let r = front_text after a.pairs (subst IsUtf8 a.split u) in
-    record { passes = a; characters = ap chars a.split ∙ r.characters; utf8 = r.utf8 }
-
-pub pairs_boundary : {octets more text after : List ℕ} → AppendsPairs octets more text after → IsUtf8 text → IsCharBoundary text (length text - length after)
-pairs_boundary {octets} {more} {text} {after} a u =
-    let at : length a.digits ≡ length text - length after = omega (arith, length-append a.digits after, ap length a.split) in
-    subst (IsCharBoundary text) at (IsCharBoundary-at_seam text a.digits after a.split (pairs_text a u).utf8)
-
-pub pairs_dropped : {octets more text after : List ℕ} → AppendsPairs octets more text after → drop (length text - length after) text ≡ after
-pairs_dropped {octets} {more} {text} {after} a =
-    let at : length text - length after ≡ length a.digits = omega (arith, length-append a.digits after, ap length a.split) in
-    ap (λ n. drop n text) at ∙ ap (drop (length a.digits)) a.split ∙ drop-append_seam a.digits after
-
-pub pairs_lead : {octets more : List ℕ} {source : Source} {text after : Bor (List ℕ)} → source ≡ Utf8 text → AppendsFront octets more text.now after.now
-    → AppendsLead octets more source (Utf8 after)
-pairs_lead {octets} {more} {source} {text} {after} e f = subst (λ x. AppendsLead octets more x (Utf8 after)) (sym e)
-    (let a = f.passes in record {
-      passes = record { digits = a.digits; values = a.values; pairs = a.pairs; split = f.characters; appended = a.appended };
-      whole = whole_utf8 after f.utf8;
-      encoding = refl;
-      shorter = omega (arith, length-append a.digits after.now, ap length a.split);
-    })
-
-pub no_lead : {octets : List ℕ} {source : Source} → IsWhole source → AppendsLead octets octets source source
-no_lead {octets} {source} w = record { passes = pairs_none octets _; whole = w; encoding = refl; shorter = omega arith }
-
-octets_front : {digits values : List ℕ} (rest more end : List ℕ) → Pairs digits values → Octets rest more end → Octets (digits ++ rest) (values ++ more) end
-octets_front rest more end Pairs.none r = r
-octets_front rest more end (Pairs.more h l p) r = Octets.piece (Octets.pair h l) (octets_front rest more end p r)
-
-fault_front : {digits values : List ℕ} (offsets : Offsets) (rest : List ℕ) (fault : LexFault) → Pairs digits values → OctetsFault offsets rest fault → OctetsFault offsets (digits ++ rest) fault
-fault_front offsets rest fault Pairs.none r = r
-fault_front offsets rest fault (Pairs.more h l p) r = Stands.piece (Octets.pair h l) (fault_front offsets rest fault p r)
-
-pub octets_pairs : {octets appended text after : List ℕ} {more end : List ℕ} (a : AppendsPairs octets appended text after) → Octets after more end
-    → Octets text (a.values ++ more) end
-octets_pairs {after = after} {more} {end} a r = subst (λ t. Octets t (a.values ++ more) end) (sym a.split) (octets_front after more end a.pairs r)
-
-pub fault_pairs : {offsets : Offsets} {octets appended text after : List ℕ} {fault : LexFault} → AppendsPairs octets appended text after
-    → OctetsFault offsets after fault → OctetsFault offsets text fault
-fault_pairs {offsets} {after = after} {fault} a r = subst (λ t. OctetsFault offsets t fault) (sym a.split) (fault_front offsets after fault a.pairs r)
-
-pub pairs_shorter : {octets more : List ℕ} {old new : Cursor} → PassesPairs octets more old new → length (ahead new) ≤ length (ahead old)
-pairs_shorter {octets} {more} {old} {new} p = omega (arith, length-append p.passes.digits (ahead new), ap length p.passes.split)

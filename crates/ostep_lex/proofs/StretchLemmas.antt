@@ -129,19 +129,6 @@ units_more {kind} {order} {octets} {rest} {after} c a e t =
           ∙ ap (λ w. w ++ after) (sym (octets_of-append (encoding_by order) a.front (c ∷ []) ∙ ap (λ w. octets_of (encoding_by order) a.front ++ w) (append-nil (spelling (encoding_by order) c))));
     }
 
--- a stretch rest_of another
-pub units_after : {kind : Class} {order : ByteOrder} {octets rest after : List ℕ} → BeginsWithUnits kind order octets rest → BeginsWithUnits kind order rest after
-    → BeginsWithUnits kind order octets after
-units_after {kind} {order} {octets} {rest} {after} a b =
-    let e = encoding_by order in
-    record {
-      front = a.front ++ b.front;
-      stretch = is_stretch-append 0xD800 kind a.front b.front a.stretch b.stretch;
-      split = a.split ∙ ap (λ w. octets_of e a.front ++ w) b.split
-          ∙ sym (append_assoc (octets_of e a.front) (octets_of e b.front) after)
-          ∙ ap (λ w. w ++ after) (sym (octets_of-append e a.front b.front));
-    }
-
 -- the units of a stretch are its characters
 units_of_stretch : (kind : Class) (order : ByteOrder) (front : List ℕ) → is_stretch 0xD800 kind front ≡ true → units_in order (octets_of (encoding_by order) front) ≡ front
 units_of_stretch kind order [] s = refl
@@ -247,18 +234,6 @@ fault_stretch {offsets} {start} {mark} {old} {new} {front} {fault} p r =
 
 pub gap_stretch : {old new : Cursor} {front end : List ℕ} → PassesStretch White old front new → Gap (ahead new) end → Gap (ahead old) end
 gap_stretch {old} {new} {front} {end} p r = subst (λ t. Gap t end) (sym p.text) (gap_front front (ahead new) end p.stretch r)
-
--- a gap, or a fault rest_of one, with whitespace before it
-pub gap_after_white : {old new end : Cursor} → SkipsStretch White old new → PassesGap new end → PassesGap old end
-gap_after_white white passes =
-    record { gap = gap_stretch white.passes passes.gap; whole = passes.whole; input = passes.input ∙ white.passes.input }
-
-fault_in_gap : {old new : Cursor} {front : List ℕ} {p : Offsets} {fault : LexFault} → PassesStretch White old front new → FaultAfterGap p (ahead new) fault → FaultAfterGap p (ahead old) fault
-fault_in_gap white (Stands.gap after at) = Stands.gap (gap_stretch white after) at
-
-pub fault_after_white : {old new : Cursor} {fault : LexFault} → SkipsStretch White old new → FaultAfterGap (offsets_in new) (ahead new) fault → FaultAfterGap (offsets_in old) (ahead old) fault
-fault_after_white {old} {new} {fault} white stands =
-    subst (λ p. FaultAfterGap p (ahead old) fault) white.passes.input (fault_in_gap white.passes stands)
 
 pub line_stretch : {old new : Cursor} {front end : List ℕ} → PassesStretch Line old front new → LineComment (ahead new) end → LineComment (ahead old) end
 line_stretch {old} {new} {front} {end} p r = subst (λ t. LineComment t end) (sym p.text) (line_front front (ahead new) end p.stretch r)

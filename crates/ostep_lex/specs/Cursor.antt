@@ -14,7 +14,6 @@ use Rattle.ostep_lex.specs.Gap.{GapPiece, Gap, begins_gap}
 use Rattle.ostep_lex.specs.Source.{characters_in, encoding_in}
 use Rattle.ostep_lex.specs.declared.stretch.Class.{Class}
 use Rattle.ostep_lex.specs.Stretch.{is_stretch}
-use Rattle.ostep_lex.specs.Pairs.{AppendsPairs}
 
 -- the characters from the cursor on
 unfoldable pub ahead : Cursor → List ℕ
@@ -48,14 +47,6 @@ pub record Opens (octets : List ℕ) (cursor : Cursor) : Type 0 where
 pub record IsAfter (octets : List ℕ) (tokens : List Located) (cursor : Cursor) : Type 0 where
   pub before : BeginsWithTokens octets tokens (ahead cursor)
   pub offsets : offsets_in cursor ≡ offsets_of octets
-
--- after any tokens of an input at the old cursor, there is one more at the new cursor, which is
--- this lexeme
-pub record AddsToken (lexeme : Lexeme) (old new : Cursor) : Type 0 where
-  pub token : Located
-  pub is : token.lexeme ≡ lexeme
-  pub stands : (octets : List ℕ) (tokens : List Located) → IsAfter octets tokens old
-      → IsAfter octets (tokens ++ token ∷ []) new
 
 -- whether the text begins with the character
 abbrev pub begins_with : ℕ → List ℕ → Bool
@@ -113,11 +104,6 @@ pub record OctetsAppends (octets more : List ℕ) (old new : Cursor) : Type 0 wh
 
 pub record PassesOctets (old new : Cursor) (octets : List ℕ) : Type 0 where
   pub bytes : Octets (ahead old) octets (ahead new)
-  pub input : SameInput old new
-
--- pairs of digits are between the old and the new cursor, and their bytes are appended
-pub record PassesPairs (octets more : List ℕ) (old new : Cursor) : Type 0 where
-  pub passes : AppendsPairs octets more (ahead old) (ahead new)
   pub input : SameInput old new
 
 -- a hexadecimal digit of this value is between the old and the new cursor

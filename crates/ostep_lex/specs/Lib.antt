@@ -10,6 +10,5 @@ pub mod Lexing
 pub mod Stands
 pub mod Cursor
 pub mod Stretch
-pub mod Pairs
 pub mod Spans
 pub mod Laws

@@ -35,11 +35,6 @@ pub record BeginsWithUnits (kind : Class) (order : ByteOrder) (octets rest : Lis
   pub stretch : is_stretch 0xD800 kind front ≡ true
   pub split : octets ≡ octets_of (encoding_by order) front ++ rest
 
-pub record AppendsUnits (kind : Class) (order : ByteOrder)
-    (units more octets rest : List ℕ) : Type 0 where
-  pub begins : BeginsWithUnits kind order octets rest
-  pub appended : more ≡ units ++ begins.front
-
 -- a stretch is first, followed by complete characters of the same encoding
 pub record LeadsStretch (kind : Class) (source : Source) (front : List ℕ)
     (after : Source) : Type 0 where

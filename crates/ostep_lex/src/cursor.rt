@@ -21,7 +21,6 @@ pub struct Cursor<'a> {
 impl<'a> Cursor<'a> {
     ghost use Rattle.ostep_lex.specs.Cursor.{ahead, offset_at, SameInput, begins_with};
     ghost use Rattle.ostep_lex.specs.Cursor.{PassesStretch, SkipsStretch, StretchAppends};
-    ghost use Rattle.ostep_lex.specs.Cursor.{PassesPairs};
     ghost use Rattle.ostep_lex.specs.Cursor.{Holds, IsBadUtf8, IsBadUtf16};
     ghost use Rattle.ostep_lex.specs.Encoding.{utf8, StopsAfter};
     ghost use Rattle.ostep_lex.specs.Source.{encoding_by};
@@ -102,20 +101,8 @@ impl<'a> Cursor<'a> {
         })
     }
 
-    // Appends the bytes of the pairs of hexadecimal digits at the cursor and returns the cursor
-    // after them. Appends nothing for UTF-16.
-    #[tactic(auto, unfolding(crate::specs::Cursor::ahead, crate::specs::Cursor::offsets_in))]
-    pub(crate) fn push_pairs(self, found: &mut Vec<u8>) -> Result<Cursor<'a>, AllocError>
-        ensures { IfOk result (PassesPairs found.old.items found.new.items self.entry) }
-    {
-        let source = self.source.push_pairs(found)?;
-        Ok(Cursor {
-            source,
-            end: self.end,
-        })
-    }
-
     // Returns the cursor after the character, if it is the first.
+    #[inline(always)]
     pub(crate) fn after(self, wanted: char) -> Option<Cursor<'a>>
         ensures { MatchOption result (begins_with wanted (ahead self.entry) ≡ false) (λ after.
             (ahead self.entry ≡ wanted ∷ ahead after) × SameInput self.entry after) }

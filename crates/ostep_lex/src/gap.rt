@@ -1,5 +1,5 @@
 //! Whitespace and comments between tokens.
-ghost use Rattle.std.specs.Prelude.{◌≡◌, false, ◌++◌, codes, IsTrue, MatchOption, IfOk, IfErr};
+ghost use Rattle.std.specs.Prelude.{◌≡◌, false, ◌++◌, codes, MatchOption, IfOk, IfErr};
 ghost use Rattle.ostep_lex.specs.Gap.{LineComment, BlockComment, NeverCloses};
 ghost use Rattle.ostep_lex.specs.Gap.{closes_comment, begins_gap};
 ghost use Rattle.ostep_lex.specs.Stands.{FaultAt, FaultAfterGap};
@@ -74,6 +74,7 @@ fn comment<'a>(cursor: Cursor<'a>, slash: Cursor<'a>) -> Result<Option<Cursor<'a
 
 // Returns the cursor after the whitespace character or the comment at the cursor, or `None` if
 // there is neither.
+#[inline(always)]
 fn gap_piece(cursor: Cursor<'_>) -> Result<Option<Cursor<'_>>, LexFault>
     ensures ok { IfOk result (λ found.
         MatchOption found (begins_gap (ahead cursor.entry) ≡ false) (PassesPiece cursor.entry)) }
@@ -91,38 +92,13 @@ fn gap_piece(cursor: Cursor<'_>) -> Result<Option<Cursor<'_>>, LexFault>
     }
 }
 
-// Returns whether there is neither whitespace nor a comment at the cursor. `false` is only a hint.
-#[inline(always)]
-fn is_over(cursor: Cursor<'_>) -> bool
-    ensures { IsTrue result → begins_gap (ahead cursor.entry) ≡ false }
-{
-    match cursor.first() {
-        Some((c, _)) => c != '/' && !is_white(c),
-        None => true,
-    }
-}
-
-/// Returns the cursor after all whitespace and comments. Is faster if there is only whitespace.
+/// Returns the cursor after all whitespace and comments.
 #[inline(always)]
 pub fn gap(cursor: Cursor<'_>) -> Result<Cursor<'_>, LexFault>
     ensures ok { IfOk result (PassesGap cursor.entry) }
     ensures err { IfErr result (FaultAfterGap (offsets_in cursor.entry) (ahead cursor.entry)) }
 {
-    let rest = cursor.after_stretch(Class::White);
-    if is_over(rest) {
-        Ok(rest)
-    } else {
-        whole_gap(rest)
-    }
-}
-
-// Returns the cursor after all whitespace and comments.
-#[inline(never)]
-fn whole_gap(cursor: Cursor<'_>) -> Result<Cursor<'_>, LexFault>
-    ensures ok { IfOk result (PassesGap cursor.entry) }
-    ensures err { IfErr result (FaultAfterGap (offsets_in cursor.entry) (ahead cursor.entry)) }
-{
-    let mut rest = cursor;
+    let mut rest = cursor.after_stretch(Class::White);
     while let Some(after) = gap_piece(rest)? {
         rest = after.after_stretch(Class::White);
     }

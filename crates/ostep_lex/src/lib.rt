@@ -14,7 +14,6 @@ pub mod laws;
 pub mod lexer;
 mod octets;
 mod opening;
-mod pairs;
 pub mod plain;
 mod quoted;
 mod source;

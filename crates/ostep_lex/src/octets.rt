@@ -58,13 +58,12 @@ pub fn octets(alloc: Global, cursor: Cursor<'_>) -> Result<(Vec<u8>, Cursor<'_>)
         (OctetsFault (offsets_in cursor.entry) (ahead cursor.entry))) }
 {
     let mut octets = Vec::new(alloc);
-    let mut rest = cursor.push_pairs(&mut octets)?;
+    let mut rest = cursor;
     while let Some((c, after)) = rest.first() {
         if c == '>' {
             return Ok((octets, after));
         }
-        let end = push_octet(&mut octets, rest, c, after)?;
-        rest = end.push_pairs(&mut octets)?;
+        rest = push_octet(&mut octets, rest, c, after)?;
     }
     Err(LexFault::BadData {
         octet: rest.offset(),

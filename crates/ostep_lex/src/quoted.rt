@@ -6,9 +6,8 @@ ghost use Rattle.ostep_lex.specs.Digits.{begins_digit};
 ghost use Rattle.ostep_lex.specs.Quoted.{escaped};
 ghost use Rattle.ostep_lex.specs.Character.{is_quote};
 ghost use Rattle.ostep_lex.specs.Stands.{EscapeFault, QuotedFault};
-ghost use Rattle.ostep_lex.specs.declared.stretch.Class.TheVariants.{Raw};
 ghost use Rattle.ostep_lex.specs.Cursor.{ahead, offsets_in, SameInput, UnlessMemory};
-ghost use Rattle.ostep_lex.specs.Cursor.{PieceAppends, StretchAppends};
+ghost use Rattle.ostep_lex.specs.Cursor.{PieceAppends};
 ghost use Rattle.ostep_lex.specs.Cursor.{PassesQuoted, PassesRun};
 
 use crate::character::is_run;
@@ -170,39 +169,6 @@ fn push_piece<'a>(
     Ok(after)
 }
 
-// Appends a stretch of unescaped characters of a string with this quote. Inlined, so that no other
-// code can see the vector that is filled.
-#[inline(always)]
-fn push_raw<'a>(
-    units: &mut Vec<u16>,
-    mark: char,
-    cursor: Cursor<'a>,
-) -> Result<Cursor<'a>, AllocError>
-    ensures { IfOk result
-        (StretchAppends (Raw mark) units.old.items units.new.items cursor.entry) }
-{
-    cursor.push_stretch(Class::Raw(mark), units)
-}
-
-// Appends the stretch that follows this character. Characters that are not ASCII mostly follow
-// each other, so no stretch is looked for after one.
-#[inline(always)]
-fn push_raw_after<'a>(
-    units: &mut Vec<u16>,
-    mark: char,
-    c: char,
-    cursor: Cursor<'a>,
-) -> Result<Cursor<'a>, AllocError>
-    ensures { IfOk result
-        (StretchAppends (Raw mark) units.old.items units.new.items cursor.entry) }
-{
-    if c.is_ascii() {
-        push_raw(units, mark, cursor)
-    } else {
-        Ok(cursor)
-    }
-}
-
 /// Returns the units of the string after its opening quote, which is at offset `start`, and the
 /// cursor after the closing quote.
 pub fn quoted(
@@ -216,13 +182,13 @@ pub fn quoted(
         (QuotedFault (offsets_in cursor.entry) start mark (ahead cursor.entry))) }
 {
     let mut units = Vec::new(alloc);
-    let mut rest = push_raw(&mut units, mark, cursor)?;
+    let mut rest = cursor.push_stretch(Class::Raw(mark), &mut units)?;
     while let Some((c, after)) = rest.first() {
         if c == mark {
             return Ok((units, after));
         }
         let end = push_piece(&mut units, start, rest, c, after)?;
-        rest = push_raw_after(&mut units, mark, c, end)?;
+        rest = end.push_stretch(Class::Raw(mark), &mut units)?;
     }
     Err(LexFault::UnclosedString { octet: start })
 }

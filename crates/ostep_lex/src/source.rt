@@ -7,9 +7,7 @@ ghost use Rattle.ostep_lex.specs.Encoding.{spelling, utf8};
 ghost use Rattle.ostep_lex.specs.Source.{unit_octets, encoding_by, FrontsOf};
 ghost use Rattle.ostep_lex.specs.Source.{characters_in, encoding_in, octets_in, IsWhole, Leads};
 ghost use Rattle.ostep_lex.specs.Stretch.{LeadsStretch, PassesLead, AppendsStretch};
-ghost use Rattle.ostep_lex.specs.Pairs.{AppendsLead};
 
-use crate::pairs::push_front;
 use crate::stretch::{Class, after_units, push_octets, push_units, stretch};
 use std::alloc::AllocError;
 
@@ -49,7 +47,6 @@ pub fn front_unit(order: ByteOrder, octets: &[u8]) -> Option<(u16, &[u8])>
 }
 
 // Returns the first character of UTF-16 bytes, and the bytes after it.
-#[inline(always)]
 fn front_character(order: ByteOrder, octets: &[u8]) -> Option<(char, &[u8])>
     ensures { MatchOption result (BeginsWithNone (encoding_by order) octets.now)
         (λ found. BeginsWith (encoding_by order) octets.now found.0 found.1.now) }
@@ -76,15 +73,6 @@ pub fn after_characters(order: ByteOrder, octets: &[u8]) -> &[u8]
         rest = after;
     }
     rest
-}
-
-// Like [`front_character`], but not inlined: most inputs are UTF-8 and do not need its code.
-#[inline(never)]
-fn front_character_out_of_line(order: ByteOrder, octets: &[u8]) -> Option<(char, &[u8])>
-    ensures { MatchOption result (BeginsWithNone (encoding_by order) octets.now)
-        (λ found. BeginsWith (encoding_by order) octets.now found.0 found.1.now) }
-{
-    front_character(order, octets)
 }
 
 // Returns the first character of a text, and the text after it.
@@ -122,7 +110,7 @@ impl<'a> Source<'a> {
                 Some((first, Source::Utf8(after)))
             }
             Source::Utf16(order, octets) => {
-                let (first, after) = front_character_out_of_line(order, octets)?;
+                let (first, after) = front_character(order, octets)?;
                 Some((first, Source::Utf16(order, after)))
             }
         }
@@ -171,24 +159,10 @@ impl<'a> Source<'a> {
                 Ok(Source::Utf8(after))
             }
             Source::Utf16(order, octets) => {
-                let after = push_units(units, class, order, octets)?;
+                let after = after_units(class, order, octets);
+                push_units(units, order, &octets[..octets.len() - after.len()])?;
                 Ok(Source::Utf16(order, after))
             }
-        }
-    }
-
-    /// Appends the bytes of the pairs of hexadecimal digits at the start and returns the source
-    /// after them. Appends nothing for UTF-16.
-    pub fn push_pairs(self, found: &mut Vec<u8>) -> Result<Source<'a>, AllocError>
-        requires { IsWhole self }
-        ensures { IfOk result (AppendsLead found.old.items found.new.items self.entry) }
-    {
-        match self {
-            Source::Utf8(text) => {
-                let after = push_front(found, text)?;
-                Ok(Source::Utf8(after))
-            }
-            Source::Utf16(..) => Ok(self),
         }
     }
 }

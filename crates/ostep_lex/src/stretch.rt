@@ -1,9 +1,9 @@
 //! Stretches: characters of one class at the start of a text, found in its bytes. They are ASCII in
 //! UTF-8, and below the surrogates in UTF-16.
-ghost use Rattle.std.specs.Prelude.{◌≡◌, ◌<◌, ◌++◌, ◌&&◌, nat_lt, true, length, chars};
-ghost use Rattle.std.specs.Prelude.{OnOk, IfOk, IfSome, IsUtf8};
+ghost use Rattle.std.specs.Prelude.{◌≡◌, ◌++◌, ◌&&◌, nat_lt, true, chars};
+ghost use Rattle.std.specs.Prelude.{OnOk, IsUtf8};
 ghost use Rattle.ostep_lex.specs.Stretch.{belongs, is_stretch, BeginsWithStretch};
-ghost use Rattle.ostep_lex.specs.Stretch.{BeginsWithUnits, AppendsUnits};
+ghost use Rattle.ostep_lex.specs.Stretch.{BeginsWithUnits};
 ghost use Rattle.ostep_lex.specs.Source.{units_in};
 
 use crate::character::{is_line_end, is_run, is_white};
@@ -96,46 +96,23 @@ pub fn push_octets(units: &mut Vec<u16>, octets: &[u8]) -> Result<(), AllocError
     Ok(())
 }
 
-// Returns the bytes after the first unit of UTF-16, if it is of the class.
-#[inline(always)]
-fn after_unit(class: Class, order: ByteOrder, octets: &[u8]) -> Option<&[u8]>
-    ensures begins { IfSome result (λ after. BeginsWithUnits class order octets.now after.now) }
-    ensures shorter { IfSome result (λ after. length after.now < length octets.now) }
-{
-    let (unit, after) = front_unit(order, octets)?;
-    if is_unit_in(class, unit) {
-        Some(after)
-    } else {
-        None
-    }
-}
-
-// Returns the bytes after the longest stretch at the start of UTF-16 bytes.
-#[inline(always)]
-fn after_units_by(class: Class, order: ByteOrder, octets: &[u8]) -> &[u8]
+/// Returns the bytes after the longest stretch at the start of UTF-16 bytes.
+#[inline(never)]
+pub fn after_units(class: Class, order: ByteOrder, octets: &[u8]) -> &[u8]
     ensures { BeginsWithUnits class order octets.now result.now }
 {
     let mut rest = octets;
-    while let Some(after) = after_unit(class, order, rest) {
+    while let Some((unit, after)) = front_unit(order, rest) {
+        if !is_unit_in(class, unit) {
+            break;
+        }
         rest = after;
     }
     rest
 }
 
-/// Like `after_units_by`, monomorphised for each byte order.
-#[inline(never)]
-pub fn after_units(class: Class, order: ByteOrder, octets: &[u8]) -> &[u8]
-    ensures { BeginsWithUnits class order octets.now result.now }
-{
-    match order {
-        ByteOrder::Big => after_units_by(class, ByteOrder::Big, octets),
-        ByteOrder::Little => after_units_by(class, ByteOrder::Little, octets),
-    }
-}
-
-// Appends the units of the bytes, of two bytes each.
-#[inline(always)]
-fn push_all_units(units: &mut Vec<u16>, order: ByteOrder, octets: &[u8]) -> Result<(), AllocError>
+/// Appends the units of the bytes, of two bytes each.
+pub fn push_units(units: &mut Vec<u16>, order: ByteOrder, octets: &[u8]) -> Result<(), AllocError>
     ensures { OnOk result
         (units.new.items ≡ units.old.items ++ units_in order octets.now) }
 {
@@ -146,21 +123,4 @@ fn push_all_units(units: &mut Vec<u16>, order: ByteOrder, octets: &[u8]) -> Resu
         rest = after;
     }
     Ok(())
-}
-
-/// Appends the units of the longest stretch at the start of UTF-16 bytes, and returns the bytes
-/// after it.
-#[inline(always)]
-pub fn push_units<'a>(
-    units: &mut Vec<u16>,
-    class: Class,
-    order: ByteOrder,
-    octets: &'a [u8],
-) -> Result<&'a [u8], AllocError>
-    ensures { IfOk result (λ after.
-        AppendsUnits class order units.old.items units.new.items octets.now after.now) }
-{
-    let after = after_units(class, order, octets);
-    push_all_units(units, order, &octets[..octets.len() - after.len()])?;
-    Ok(after)
 }

@@ -1,17 +1,27 @@
-use Rattle.std.proofs.lemmas.Result.{IfErr-weaker, IfOk-weaker}
-use Rattle.ostep_lex.specs.Gap.{none}
-use Rattle.ostep_lex.proofs.StretchLemmas.{gap_stretch, gap_after_white, fault_after_white}
+use Rattle.std.proofs.Common.{◌∙◌, subst}
+use Rattle.ostep_lex.specs.Gap.{none, piece}
+use Rattle.ostep_lex.specs.Stands.{gap, FaultAt, FaultAfterGap}
+use Rattle.ostep_lex.specs.Cursor.{PassesPiece, ahead, offsets_in}
+use Rattle.ostep_lex.proofs.Exits.{passed_on}
+use Rattle.ostep_lex.proofs.StretchLemmas.{gap_stretch}
 use Rattle.ostep_lex.proofs.gap.gap.Goals as goal
 
-pub returns-then-is_over-clause-ok : goal.returns-then-is_over-clause-ok
-returns-then-is_over-clause-ok c =
-    let white = c.after_stretch-rest.ensures.passes in
-    record { gap = gap_stretch white none; whole = c.is_over.ensures c.if-is_over.true; input = white.input }
+pub returns-in_err-after-clause-err : goal.returns-in_err-after-clause-err
+returns-in_err-after-clause-err c =
+    let rest = c.loop-after.rest in
+    passed_on (FaultAfterGap (offsets_in c.args.cursor) (ahead c.args.cursor)) _ c.from_residual.result c.from_residual.ensures.1
+    (gap (c.loop-after.invariant.0 _ none) (subst (λ p. FaultAt p (ahead rest) c.in_err-after.field-0.0) c.loop-after.invariant.1 c.in_err-after.ensures.err))
 
-pub returns-else-is_over-clause-ok : goal.returns-else-is_over-clause-ok
-returns-else-is_over-clause-ok c =
-    IfOk-weaker c.whole_gap.result _ _ (λ end passes. gap_after_white c.after_stretch-rest.ensures passes) c.whole_gap.ensures.ok
+pub loop-after-init : goal.loop-after-init
+loop-after-init c = (λ end r. gap_stretch c.after_stretch-rest.ensures.passes r, c.after_stretch-rest.ensures.passes.input)
 
-pub returns-else-is_over-clause-err : goal.returns-else-is_over-clause-err
-returns-else-is_over-clause-err c =
-    IfErr-weaker c.whole_gap.result _ _ (λ fault stands. fault_after_white c.after_stretch-rest.ensures stands) c.whole_gap.ensures.err
+pub loop-after-preserved : goal.loop-after-preserved
+loop-after-preserved c =
+    let p : PassesPiece c.loop-after.rest c.in-Some.after = rw c.in-Some.is at c.in_ok-after.ensures.ok in (
+      λ end r. c.loop-after.invariant.0 end (piece p.piece (gap_stretch c.after_stretch-rest-in-Some.ensures.passes r)),
+      c.after_stretch-rest-in-Some.ensures.passes.input ∙ p.input ∙ c.loop-after.invariant.1,
+    )
+
+pub returns-clause-ok : goal.returns-clause-ok
+returns-clause-ok c =
+    record { gap = c.loop-after.invariant.0 _ none; whole = rw c.in_default.is at c.in_ok-after.ensures.ok; input = c.loop-after.invariant.1 }

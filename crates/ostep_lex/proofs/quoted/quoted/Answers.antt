@@ -34,7 +34,7 @@ loop-c-smaller c =
 pub loop-c-init : goal.loop-c-init
 loop-c-init c =
     let q = c.in_ok-rest.ensures in
-    let all : c.push_raw.new.units.items ≡ q.front = q.appended ∙ ap (λ us. us ++ q.front) c.new-units.ensures.items in (
+    let all : c.push_stretch.new.units.items ≡ q.front = q.appended ∙ ap (λ us. us ++ q.front) c.new-units.ensures.items in (
       λ more end r. subst (λ us. Quoted c.args.mark (ahead c.args.cursor) (us ++ more) end) (sym all) (quoted_stretch q.passes r),
       λ fault f. fault_stretch q.passes f,
       q.passes.input,

@@ -1,6 +1,6 @@
 use Rattle.std.proofs.Common.{◌≡◌, ◌+◌, ◌≤◌, ◌++◌, length, vec_len, vec_capacity}
 use Rattle.ostep_lex.specs.Source.{units_in}
-use Rattle.ostep_lex.proofs.stretch.push_all_units.Given as goal
+use Rattle.ostep_lex.proofs.stretch.push_units.Given as goal
 
 abbrev pub invariant-loop-unit : goal.invariant-loop-unit
 invariant-loop-unit l = record {
