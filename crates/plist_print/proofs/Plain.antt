@@ -1,13 +1,10 @@
 -- Units that are printed without an escape.
-use Rattle.std.proofs.Common.{◌≡◌, ℕ, zero, suc, ◌+◌, ◌-◌, ◌/◌, ◌%◌, ◌<◌, ◌≤◌, Bool, true, false, not, ◌&&◌, T, List, [], ◌∷◌, ◌++◌, refl, ap, sym, ◌∙◌, drop, take, length, arith, inl, inr, eq-zero-or-pos}
+use Rattle.std.proofs.Common.{◌≡◌, ℕ, zero, suc, ◌+◌, ◌-◌, ◌/◌, ◌%◌, ◌<◌, ◌≤◌, Bool, true, false, not, ◌&&◌, T, List, [], ◌∷◌, ◌++◌, refl, ap, ◌∙◌, drop, length, arith, inl, inr, eq-zero-or-pos}
 use Rattle.std.specs.Prelude.{◌==◌, codes, if◌then◌else◌}
 use Rattle.std.specs.Char.{encode_utf8}
 use Rattle.plist_value.specs.Digits.{two_digits}
 use Rattle.plist_value.specs.Escapes.{is_literal, literal_run, quoted_unit}
-use Rattle.plist_value.proofs.Quoted.{literal_run-begins}
-use Rattle.std.proofs.lemmas.List.{drop-drop, length-drop, length-take, take_all}
-use Rattle.std.proofs.lemmas.List.Folds.{length-prefix_len}
-use Rattle.std.proofs.lemmas.List.Sums.{prefix_len-le-length}
+use Rattle.plist_value.proofs.Quoted.{run-text}
 use Rattle.std.specs.Int.{is_in_range}
 use Rattle.std.proofs.lemmas.Bool.{cases_Bool}
 use Rattle.std.specs.Char.Utf16.{is_high_surrogate}
@@ -98,18 +95,6 @@ literal-printed u us is = printed_units-plain u us (record {
   backslash = λ e. grind (arith, nat_tests, is, e);
 })
 
-pub run-of : {us octets run : List ℕ} (i : ℕ) → us ≡ octets → run ≡ literal_run (take (length octets - i) (drop i octets)) → run ≡ literal_run (drop i us)
-run-of {octets = octets} i same is =
-    is ∙ ap literal_run (take_all (length octets - i) (drop i octets) (omega (arith, length-drop i octets))) ∙ ap (λ os. literal_run (drop i os)) (sym same)
-
 -- what is left after a run of units that need no escape
 pub run-printed : (us run : List ℕ) (i : ℕ) → run ≡ literal_run (drop i us) → printed_units (drop i us) ≡ run ++ printed_units (drop (i + length run) us)
-run-printed us run i is =
-    literal_run-begins printed_units literal-printed (drop i us)
-    ∙ ap (λ os. os ++ printed_units (drop (length os) (drop i us))) (sym is)
-    ∙ ap (λ os. run ++ printed_units os) (drop-drop (length run) i us)
-
-pub run-within : (us run : List ℕ) (i : ℕ) → i < length us → run ≡ literal_run (drop i us) → i + length run ≤ length us
-run-within us run i within is =
-    let first = take 4096 (drop i us) in
-    omega (arith, within, ap length is, length-prefix_len is_literal first, prefix_len-le-length is_literal first, length-take 4096 (drop i us), length-drop i us)
+run-printed = run-text printed_units literal-printed

@@ -1,5 +1,5 @@
 use Rattle.plist_value.specs.Texts.{units_of}
-use Rattle.ostep_write.proofs.Runs.{run-of, run-quoted, run-within}
+use Rattle.plist_value.proofs.Quoted.{run-of, run-quoted, run-within}
 use Rattle.ostep_write.proofs.strings.put_some.Goals as goal
 
 pub returns-then-not-is_empty-clause-octets : goal.returns-then-not-is_empty-clause-octets

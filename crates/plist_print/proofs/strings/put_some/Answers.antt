@@ -1,5 +1,6 @@
 use Rattle.plist_value.specs.Texts.{units_of}
-use Rattle.plist_print.proofs.Plain.{run-of, run-printed, run-within}
+use Rattle.plist_print.proofs.Plain.{run-printed}
+use Rattle.plist_value.proofs.Quoted.{run-of, run-within}
 use Rattle.plist_print.proofs.strings.put_some.Goals as goal
 
 pub returns-clause-octets : goal.returns-clause-octets
