@@ -1,11 +1,13 @@
 //! The complete program.
 ghost use Rattle.std.specs.Prelude.{◌≡◌, map};
 ghost use Rattle.plist_convert.specs.Asked.{asked_by};
+ghost use Rattle.plist_convert.specs.FileDisk.{disk_failures};
 ghost use Rattle.plist_convert.specs.Program.{DeviceFailed, IsAskedRun, IsHostRun, IsRun};
 ghost use Rattle.plist_convert.specs.Runs.{are_named};
 ghost use Rattle.plist_convert.specs.State.{input_of, run_state};
 
 use crate::answers::Task;
+use crate::arguments::read_words;
 use crate::executing::{answer_files, compare_files, convert_file, explain_what, print_file};
 use crate::file_disk::FileDisk;
 use crate::filtering::filter;
@@ -13,7 +15,6 @@ use crate::host_disk::HostDisk;
 use crate::opens::Steady;
 use crate::printing::print_message;
 use crate::random_keys::random_state;
-use crate::reading::read_words;
 use crate::request::Request;
 use plist_devices::{Sink, Source, Stream};
 use plist_value::FixedHasher;
@@ -45,7 +46,8 @@ pub fn run<R: Files, I: Read, O: Write>(
     ensures { IsHostRun (map (λ word. word.now) words.now) (I.remaining input.old)
         (I.remaining input.new) (O.contents output.old) (O.contents output.new) result }
 {
-    run_last(rt, alloc, FixedHasher::new(), words, input, output)
+    let mut disk = HostDisk::new(rt, FixedHasher::new());
+    run_on_host(alloc, &mut disk, words, input, output)
 }
 
 /// Like [`run`], but hashes scalars with a [`RandomState`](std::hash::RandomState) that is created
@@ -63,27 +65,26 @@ pub fn run_to_end<R: Files + RandomSource, I: Read, O: Write>(
         (I.remaining input.new) (O.contents output.old) (O.contents output.new) result }
 {
     match random_state(rt) {
-        Ok(hasher) => run_last(rt, alloc, hasher, words, input, output),
-        Err(_) => run_last(rt, alloc, FixedHasher::new(), words, input, output),
+        Ok(hasher) => run_on_host(alloc, &mut HostDisk::new(rt, hasher), words, input, output),
+        Err(_) => run(rt, alloc, words, input, output),
     }
 }
 
-// Runs the program with the hasher of this builder.
-fn run_last<H: BuildHasher + Copy, R: Files, I: Read, O: Write>(
-    rt: &R,
+// Runs the program on the files and streams of the host.
+fn run_on_host<H: BuildHasher + Copy, R: Files, I: Read, O: Write>(
     alloc: Global,
-    hasher: H,
+    disk: &mut HostDisk<R, H>,
     words: &[&str],
     input: &mut I,
     output: &mut O,
 ) -> u8
+    requires { disk_failures disk.old ≡ 0 }
     ensures { IsHostRun (map (λ word. word.now) words.now) (I.remaining input.old)
         (I.remaining input.new) (O.contents output.old) (O.contents output.new) result }
 {
-    let mut disk = HostDisk::new(rt, hasher);
     let mut source = Stream::new(input);
     let mut sink = Stream::new(output);
-    run_on(alloc, &mut disk, words, &mut source, &mut sink)
+    run_on(alloc, disk, words, &mut source, &mut sink)
 }
 
 /// Runs the complete program on any files and streams, like [`run`] on the files of the host.

@@ -4,6 +4,7 @@
 #![tactic(auto)]
 
 pub mod answers;
+mod arguments;
 mod commands;
 mod created_file;
 mod entry;
@@ -15,10 +16,10 @@ pub mod host_disk;
 pub mod opens;
 mod printing;
 mod random_keys;
-mod reading;
 mod request;
 mod verdicts;
 
+pub use arguments::read_words;
 pub use entry::{run, run_on, run_to_end};
 pub use file_disk::FileDisk;
 pub use host_disk::HostDisk;
@@ -29,5 +30,4 @@ pub use plist_forms::{
     Fault, Form, MAX_INPUT, PairFault, Status, canonicalise, convert, laws, line, load, read_any,
     same_files,
 };
-pub use reading::read_words;
 pub use request::Request;

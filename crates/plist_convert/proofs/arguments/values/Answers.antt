@@ -1,7 +1,7 @@
 use Rattle.std.proofs.Common.{ap, map, Some, ◌∙◌}
 use Rattle.clap.specs.Words.{found_of}
 use Rattle.clap.proofs.WalkLemmas.{raw_values-rows}
-use Rattle.plist_convert.proofs.reading.values.Goals as goal
+use Rattle.plist_convert.proofs.arguments.values.Goals as goal
 
 pub returns-in_ok-from_slice-in-Some : goal.returns-in_ok-from_slice-in-Some
 returns-in_ok-from_slice-in-Some c =

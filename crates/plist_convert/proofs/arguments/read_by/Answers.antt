@@ -2,7 +2,7 @@ use Rattle.std.proofs.Common.{rules}
 use Rattle.clap.specs.Words.{app_of}
 use Rattle.plist_convert.proofs.CommandLine.{program_free}
 use Rattle.plist_convert.proofs.Parsed.{read_nothing, read_refused, read_taken}
-use Rattle.plist_convert.proofs.reading.read_by.Goals as goal
+use Rattle.plist_convert.proofs.arguments.read_by.Goals as goal
 
 pub returns-in_err-matches : goal.returns-in_err-matches
 returns-in_err-matches c = λ line.
