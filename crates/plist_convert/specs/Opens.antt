@@ -42,7 +42,7 @@ NeedsMemory files error =
 abbrev pub IsWithin : ℕ → Option (List ℕ) → Type 0
 IsWithin limit contents = IfSome contents (λ octets. length octets ≤ limit)
 
--- these bytes, if they are known, are so many or more
+-- these bytes, if they are known, are no fewer than this
 abbrev pub IsFilled : ℕ → Option (List ℕ) → Type 0
 IsFilled limit contents = IfSome contents (λ octets. limit ≤ length octets)
 
