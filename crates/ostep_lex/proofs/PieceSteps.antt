@@ -1,15 +1,8 @@
 -- A step over a string, a number or data, from an equation for the first character.
-use Rattle.std.proofs.Common.{ℕ, zero, suc, ◌+◌, ◌-◌, ◌*◌, ◌^◌, ◌<◌, ◌≤◌, false, List, [], ◌∷◌, ◌≡◌, refl, sym, ap, ◌∙◌, arith, lit≤, le-ltb, lt-ltb, add-one, length, cond, true, Bool, ◌++◌, ◌==◌, subst, append_assoc, drop, append-nil, length-append}
+use Rattle.std.proofs.Common.{ℕ, zero, suc, ◌+◌, ◌-◌, ◌*◌, ◌^◌, ◌<◌, ◌≤◌, false, List, [], ◌∷◌, ◌≡◌, refl, sym, ap, ◌∙◌, arith, lit≤, le-ltb, lt-ltb, add-one, length, cond, true, Bool, ◌++◌, ◌==◌, subst, append_assoc}
 use Rattle.std.proofs.Math.Nat.{pow-zero, pow-suc, mul-le-mul}
 use Rattle.std.specs.Char.{digit_value, is_digit}
 use Rattle.std.specs.Char.Escape.{encode_utf16}
-use Rattle.std.specs.Prelude.{IsUtf8, chars}
-use Rattle.std.specs.Str.{IsCharBoundary}
-use Rattle.std.specs.Borrow.{Bor}
-use Rattle.std.proofs.Math.Seq.{drop-append_seam}
-use Rattle.std.proofs.lemmas.Bool.Decides.{nat_tests}
-use Rattle.std.proofs.lemmas.Str.{IsCharBoundary-at_seam, encode_ascii, IsUtf8-past_char, chars_past_char}
-use lib.Utf8.{encode}
 use Rattle.ostep_lex.specs.Digits.{number_from, begins_digit, Number}
 use Rattle.ostep_lex.specs.Character.{is_run, is_white}
 use Rattle.ostep_lex.specs.declared.fault.LexFault.TheVariants.{UnclosedString, BadEscape, OctalRange, BadData, OddData}
@@ -20,14 +13,6 @@ use Rattle.ostep_lex.specs.Quoted
 use Rattle.ostep_lex.specs.Quoted.{Run, begins_run, Escape, Piece, Quoted, escaped, is_raw}
 use Rattle.ostep_lex.specs.Octets
 use Rattle.ostep_lex.specs.Octets.{OctetsPiece, Octets}
-use Rattle.ostep_lex.specs.declared.source.Source.{Source}
-use Rattle.ostep_lex.specs.declared.source.Source.TheVariants.{Utf8}
-use Rattle.ostep_lex.specs.Source.{IsWhole}
-use Rattle.ostep_lex.specs.declared.cursor.Cursor.{Cursor}
-use Rattle.ostep_lex.specs.declared.fault.LexFault.{LexFault}
-use Rattle.ostep_lex.specs.Cursor.{ahead}
-use Rattle.ostep_lex.proofs.TextLemmas.{whole_utf8}
-use Rattle.ostep_lex.proofs.StretchLemmas.{AsciiFront}
 
 pub number_stop : (base count high : ℕ) (text : List ℕ) → begins_digit base text ≡ false → number_from base count high text ≡ record { value = high; after = text }
 number_stop base (suc count) high (c ∷ rest) e = rw e refl

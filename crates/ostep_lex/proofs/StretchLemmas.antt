@@ -27,7 +27,7 @@ use Rattle.ostep_lex.specs.Quoted
 use Rattle.ostep_lex.specs.Quoted.{Run as RunOf, Quoted, Piece, is_raw}
 use Rattle.ostep_lex.specs.Stands
 use Rattle.ostep_lex.specs.Stands.{QuotedFault, FaultAfterGap}
-use Rattle.ostep_lex.specs.Cursor.{ahead, offsets_in, PassesStretch, SkipsStretch, PassesGap}
+use Rattle.ostep_lex.specs.Cursor.{ahead, PassesStretch}
 use Rattle.ostep_lex.proofs.TextLemmas.{and_left, and_right, whole_utf8, octets_of-append, WholeText, WholeText-after, spelling_one, utf16_characters-spelling, units_in-first}
 
 pub stretch_none : (kind : Class) (octets : List ℕ) → BeginsWithStretch kind octets octets

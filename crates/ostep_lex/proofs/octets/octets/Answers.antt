@@ -1,4 +1,4 @@
-use Rattle.std.proofs.Common.{◌≡◌, ◌<◌, ◌≤◌, ◌++◌, [], length, refl, sym, ap, subst, arith, append-nil, ◌∙◌}
+use Rattle.std.proofs.Common.{◌≡◌, ◌++◌, [], refl, sym, subst, append-nil, ◌∙◌}
 use Rattle.ostep_lex.specs.Octets.{Octets, piece}
 use Rattle.ostep_lex.specs.Stands
 use Rattle.ostep_lex.specs.Encoding.{offset}
