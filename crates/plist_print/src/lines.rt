@@ -78,17 +78,17 @@ fn put_short(out: &mut Vec<u8>, scalar: &ScalarRef) -> Result<(), AllocError>
     }
 }
 
-// Writes the string in quotes, and then the bytes behind it.
+// Writes the string in quotes, followed by these bytes.
 //
 // # Errors
 //
 // Fails like [`print_scalar`].
 pub(crate) fn print_text<W: Sink>(
     text: &TextRef,
-    behind: &[u8],
+    after: &[u8],
     out: &mut BufferedSink<W>,
 ) -> Result<(), WriteFault>
-    ensures emits { Emits (printed_text (units_of text.now) ++ behind.now)
+    ensures emits { Emits (printed_text (units_of text.now) ++ after.now)
         (sink_state W.Sink out.old) (sink_state W.Sink out.new) result }
 {
     out.put(b"\"")?;
@@ -100,5 +100,5 @@ pub(crate) fn print_text<W: Sink>(
         index = next;
     }
     out.put(b"\"")?;
-    out.put(behind)
+    out.put(after)
 }

@@ -58,6 +58,7 @@ pub(crate) fn decimal_of(format: Format, bits: u64) -> Option<Decimal>
         });
     }
     let exponent = bits / format.hidden;
+    // With a lower exponent, the real is less than half of the last of 21 digits.
     if exponent < format.one - 124 || exponent >= format.to {
         return None;
     }

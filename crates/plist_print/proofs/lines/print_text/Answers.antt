@@ -20,7 +20,7 @@ all-written us done index p q past split emits =
 pub returns-in_err-put : goal.returns-in_err-put
 returns-in_err-put g c =
     let us = units_of c.args.text.now in
-    record { emits = refused c.from_residual.result c.from_residual.ensures.1 (Emits_stop (34 ∷ []) ((printed_units us ++ (34 ∷ [])) ++ c.args.behind.now) (sink_state g.W.Sink c.args.out.now) _ _ c.in_err-put.ensures.emits) }
+    record { emits = refused c.from_residual.result c.from_residual.ensures.1 (Emits_stop (34 ∷ []) ((printed_units us ++ (34 ∷ [])) ++ c.args.after.now) (sink_state g.W.Sink c.args.out.now) _ _ c.in_err-put.ensures.emits) }
 
 pub loop-index-init : goal.loop-index-init
 loop-index-init g c = record { within = omega arith; done = 34 ∷ []; split = refl; emits = c.in_ok-put.ensures.emits }
@@ -31,7 +31,7 @@ returns-in_err-next g c =
     let us = units_of c.args.text.now in
     let l = c.loop-index in
     let left = printed_units (drop l.index us) in
-    let behind = c.args.behind.now in
+    let behind = c.args.after.now in
     rw (e.1, e.2, c.in_err-next.ensures.refused.1) (record { emits = no_piece l.invariant.done (left ++ (34 ∷ behind)) (printed_text us ++ behind) c.put_some-put.new.out.items (sink_state g.W.Sink c.args.out.now) (sink_state g.W.Sink l.out) (omega (arith, ended-some left 34 behind)) (sym (append_assoc l.invariant.done left (34 ∷ behind)) ∙ ap (λ os. os ++ (34 ∷ behind)) l.invariant.split ∙ whole us behind) l.invariant.emits })
 
 pub returns-in_err-flush_if_full : goal.returns-in_err-flush_if_full
@@ -41,7 +41,7 @@ returns-in_err-flush_if_full g c =
     let p = sink_state g.W.Sink c.args.out.now in
     let q = sink_state g.W.Sink l.out in
     let r = sink_state g.W.Sink c.flush_if_full.new.self in
-    record { emits = refused c.from_residual-in_err-flush_if_full.result c.from_residual-in_err-flush_if_full.ensures.1 (brackets_unopened (34 ∷ printed_units us) (34 ∷ []) c.args.behind.now (printed_text us ++ c.args.behind.now) (whole us c.args.behind.now) {T = Unit {0}} p r _ (piece-stops l.invariant.done (printed_units (drop l.index us)) (printed_units (drop c.in_ok-next.next us)) (34 ∷ printed_units us) c.put_some-put.new.out.items p q l.invariant.split l.invariant.emits (rw c.in_ok-next.ensures.value at c.put_some-put.ensures.octets) r _ c.in_err-flush_if_full.ensures.emits)) }
+    record { emits = refused c.from_residual-in_err-flush_if_full.result c.from_residual-in_err-flush_if_full.ensures.1 (brackets_unopened (34 ∷ printed_units us) (34 ∷ []) c.args.after.now (printed_text us ++ c.args.after.now) (whole us c.args.after.now) {T = Unit {0}} p r _ (piece-stops l.invariant.done (printed_units (drop l.index us)) (printed_units (drop c.in_ok-next.next us)) (34 ∷ printed_units us) c.put_some-put.new.out.items p q l.invariant.split l.invariant.emits (rw c.in_ok-next.ensures.value at c.put_some-put.ensures.octets) r _ c.in_err-flush_if_full.ensures.emits)) }
 
 pub loop-index-preserved : goal.loop-index-preserved
 loop-index-preserved g c =
@@ -64,7 +64,7 @@ returns-in_err-put-2 g c =
     let p = sink_state g.W.Sink c.args.out.now in
     let q = sink_state g.W.Sink l.out in
     let units = all-written us l.invariant.done l.index p q (omega (arith, c.loop-index-test.false)) l.invariant.split l.invariant.emits in
-    record { emits = refused c.from_residual-in_err-put-2.result c.from_residual-in_err-put-2.ensures.1 (brackets_unfilled (34 ∷ printed_units us) (34 ∷ []) c.args.behind.now (printed_text us ++ c.args.behind.now) (whole us c.args.behind.now) p q (sink_state g.W.Sink c.put-2.new.self) tt _ units c.in_err-put-2.ensures.emits) }
+    record { emits = refused c.from_residual-in_err-put-2.result c.from_residual-in_err-put-2.ensures.1 (brackets_unfilled (34 ∷ printed_units us) (34 ∷ []) c.args.after.now (printed_text us ++ c.args.after.now) (whole us c.args.after.now) p q (sink_state g.W.Sink c.put-2.new.self) tt _ units c.in_err-put-2.ensures.emits) }
 
 pub returns : goal.returns
 returns g c =
@@ -73,4 +73,4 @@ returns g c =
     let p = sink_state g.W.Sink c.args.out.now in
     let q = sink_state g.W.Sink l.out in
     let units = all-written us l.invariant.done l.index p q (omega (arith, c.loop-index-test.false)) l.invariant.split l.invariant.emits in
-    record { emits = brackets_closed (34 ∷ printed_units us) (34 ∷ []) c.args.behind.now (printed_text us ++ c.args.behind.now) (whole us c.args.behind.now) p q (sink_state g.W.Sink c.put-2.new.self) (sink_state g.W.Sink c.put-3.new.self) tt _ c.put-3.result units c.in_ok-put-2.ensures.emits c.put-3.ensures.emits }
+    record { emits = brackets_closed (34 ∷ printed_units us) (34 ∷ []) c.args.after.now (printed_text us ++ c.args.after.now) (whole us c.args.after.now) p q (sink_state g.W.Sink c.put-2.new.self) (sink_state g.W.Sink c.put-3.new.self) tt _ c.put-3.result units c.in_ok-put-2.ensures.emits c.put-3.ensures.emits }
