@@ -127,7 +127,6 @@ UNTOLD = (
     "host_tests::",
     "judge_tests::keys_in_another_order",
     "memory_tests::",
-    "order_tests::",
     "several_tests::",
     "sink_tests::a_writer_takes_what_is_put",
 )

@@ -166,11 +166,13 @@ fn is_own(alloc: Global, octets: &[u8]) -> Result<bool, Fail> {
     Ok(made.as_slice() == octets && own.as_slice() == octets)
 }
 
-// Returns whether the validator, the reader and `canonicalise` refuse the file with this fault.
-pub(crate) fn is_refused(alloc: Global, octets: &[u8], fault: BinaryFault) -> bool {
-    judge(alloc, octets).err() == Some(fault)
-        && read(alloc, octets).err() == Some(fault)
-        && canonicalise(alloc, octets).err() == Some(Fault::Binary(fault))
+// Returns the faults with which the validator, the reader and `canonicalise` refuse the file.
+pub(crate) fn faults_of(alloc: Global, octets: &[u8]) -> [Option<Fault>; 3] {
+    [
+        judge(alloc, octets).err().map(Fault::Binary),
+        read(alloc, octets).err().map(Fault::Binary),
+        canonicalise(alloc, octets).err(),
+    ]
 }
 
 #[test]
@@ -203,7 +205,8 @@ fn files_beyond_the_limits(rt: HostRuntime) -> Result<(), Fail> {
         let (rule, object) = (*rule, *object);
         let verdict = Verdict::Broken { rule, object };
         assert_eq!(rt; check(rt.alloc(), octets), Ok(verdict), "row {index}");
-        assert!(rt; is_refused(rt.alloc(), octets, *fault), "row {index}");
+        let refused = [Some(Fault::Binary(*fault)); 3];
+        assert_eq!(rt; faults_of(rt.alloc(), octets), refused, "row {index}");
     }
     Ok(())
 }

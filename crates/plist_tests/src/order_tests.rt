@@ -1,7 +1,8 @@
 //! Which refusal is returned if several are true: of references to level 513, and of references
 //! after 16,777,216 nodes.
-use crate::limit_tests::is_refused;
+use crate::limit_tests::faults_of;
 use plist_binary::BinaryFault;
+use plist_forms::Fault;
 use std::alloc::{AllocError, Global};
 use std::test::Fail;
 use test_files::Draft;
@@ -82,9 +83,11 @@ const ROWS: [(&[&[u8]], BinaryFault, BinaryFault); 6] = [
 fn the_first_of_several_refusals_is_returned(rt: HostRuntime) -> Result<(), Fail> {
     for (objects, of_deep, of_full) in ROWS {
         let file = deep(rt.alloc(), objects)?;
-        assert!(rt; is_refused(rt.alloc(), file.as_slice(), of_deep));
+        let refused = [Some(Fault::Binary(of_deep)); 3];
+        assert_eq!(rt; faults_of(rt.alloc(), file.as_slice()), refused);
         let file = full(rt.alloc(), objects)?;
-        assert!(rt; is_refused(rt.alloc(), file.as_slice(), of_full));
+        let refused = [Some(Fault::Binary(of_full)); 3];
+        assert_eq!(rt; faults_of(rt.alloc(), file.as_slice()), refused);
     }
     Ok(())
 }

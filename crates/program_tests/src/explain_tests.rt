@@ -1,4 +1,5 @@
 //! `explain` of the lines that the program prints.
+use crate::words::with_memory;
 use crate::worked_files::{TABLE_TEXT, UNSORTED};
 use plist_convert::{FileDisk, run_on};
 use plist_devices::{ListSink, ListSource};
@@ -24,7 +25,7 @@ fn ran(alloc: Global, words: &[&str], octets: &[u8]) -> Result<(u8, ListSink), A
     let mut disk = FileDisk::over(files, FixedHasher::new());
     let mut input = ListSource::new(octets, 3, None);
     let mut output = ListSink::new(alloc, 60_000, 4096)?;
-    let status = run_on(alloc, &mut disk, words, &mut input, &mut output);
+    let status = with_memory(run_on(alloc, &mut disk, words, &mut input, &mut output))?;
     Ok((status, output))
 }
 

@@ -2,9 +2,10 @@
 //! what it leaves of standard input.
 use crate::host_tests::{holds, put_files, remove_files};
 use crate::strict::{Strict, StrictHost, Transfers};
-use crate::words::{printed_of, words_of};
+use crate::words::{printed_of, with_memory, words_of};
 use crate::worked_files::{TABLE, UNSORTED, WRITTEN_TEXT};
 use plist_convert::{run, run_to_end};
+use std::alloc::AllocError;
 use std::cell::Cell;
 use std::io::{ErrorKind, Read, Write};
 use std::random::RandomSource;
@@ -223,13 +224,18 @@ fn a_file_that_is_not_stored_is_51(rt: HostRuntime) -> Result<(), Fail> {
 }
 
 // Converts standard input to standard output, of which transfers fail. Returns the exit status and
-// the output.
-fn filtered(rt: &HostRuntime, read: Transfers, written: Transfers, to_end: bool) -> (u8, Vec<u8>) {
+// the output, for which memory is reserved.
+fn filtered(
+    rt: &HostRuntime,
+    read: Transfers,
+    written: Transfers,
+    to_end: bool,
+) -> Result<(u8, Vec<u8>), AllocError> {
     let mut input = Strict::with(UNSORTED, read);
-    let mut output = Strict::with(Vec::new(rt.alloc()), written);
+    let mut output = Strict::with(Vec::with_capacity(rt.alloc(), 1_000)?, written);
     let host = StrictHost::over(rt);
     let status = ran(&host, rt, &["plistconv"], &mut input, &mut output, to_end);
-    (status, output.device)
+    Ok((with_memory(status)?, output.device))
 }
 
 #[test]
@@ -237,10 +243,10 @@ fn streams_that_fail_once(rt: HostRuntime) -> Result<(), Fail> {
     for kind in KINDS {
         for to_end in [false, true] {
             let failing = Transfers::failing(1, kind);
-            let (status, output) = filtered(&rt, failing, Transfers::GOOD, to_end);
+            let (status, output) = filtered(&rt, failing, Transfers::GOOD, to_end)?;
             assert_eq!(rt; status, 4);
             assert_eq!(rt; output.as_slice(), b"-: refused 50 ReadFailed\n".as_slice());
-            let (status, output) = filtered(&rt, Transfers::GOOD, failing, to_end);
+            let (status, output) = filtered(&rt, Transfers::GOOD, failing, to_end)?;
             assert_eq!(rt; status, 4);
             assert_eq!(rt;
                 output.as_slice(),

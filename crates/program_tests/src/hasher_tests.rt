@@ -1,7 +1,8 @@
 //! Each call that takes a hash builder hashes by it.
+use crate::words::with_memory;
 use crate::worked_files::{TABLE, TABLE_TEXT, UNSORTED};
 use plist_canon::{canonical_with_hasher, check_with_hasher, write_canonical_with_hasher};
-use plist_convert::answers::{check_answer, check_answer_of, same_answer};
+use plist_convert::answers::{Answer, check_answer, check_answer_of, same_answer};
 use plist_convert::opens::Steady;
 use plist_convert::{FileDisk, Form, HostDisk, ListSource, read_any, run_on};
 use plist_devices::ListSink;
@@ -59,14 +60,22 @@ fn convert_by(alloc: Global, by: Counting) -> Result<[bool; 5], Fail> {
     ])
 }
 
+// Returns the exit status of the answer, or an error if out of memory.
+fn status_of(answer: Result<Answer, AllocError>) -> Result<u8, AllocError> {
+    with_memory(answer?.status.code())
+}
+
 // Makes the calls that answer.
 fn answer_by(alloc: Global, by: Counting) -> Result<[bool; 5], Fail> {
     Ok([
         builds!(by, check_with_hasher(alloc, by, TABLE)),
         builds!(by, same_files_with_hasher(alloc, by, TABLE, UNSORTED)),
-        builds!(by, check_answer(alloc, by, "a", TABLE)),
-        builds!(by, check_answer_of(alloc, by, true, "a", TABLE)),
-        builds!(by, same_answer(alloc, by, "a", "b", TABLE, UNSORTED)),
+        builds!(by, status_of(check_answer(alloc, by, "a", TABLE))),
+        builds!(by, status_of(check_answer_of(alloc, by, true, "a", TABLE))),
+        builds!(
+            by,
+            status_of(same_answer(alloc, by, "a", "b", TABLE, UNSORTED))
+        ),
     ])
 }
 
@@ -105,8 +114,7 @@ fn run_row<H: BuildHasher + Copy>(
     let mut disk = FileDisk::over(files, hasher);
     let mut input = ListSource::new(TABLE_TEXT, 3, None);
     let mut output = ListSink::new(alloc, 6000, 7)?;
-    let status = run_on(alloc, &mut disk, words, &mut input, &mut output);
-    Ok(status)
+    with_memory(run_on(alloc, &mut disk, words, &mut input, &mut output))
 }
 
 #[test]

@@ -12,6 +12,14 @@ pub(crate) fn words_of(alloc: Global, row: &str) -> Result<Vec<&str>, AllocError
     Ok(words)
 }
 
+// Returns the exit status, or an error if the run was out of memory.
+pub(crate) fn with_memory(status: u8) -> Result<u8, AllocError> {
+    if status == 5 {
+        return Err(AllocError);
+    }
+    Ok(status)
+}
+
 // Returns what a row expects to be printed, or `None` if it expects another status.
 pub(crate) fn printed_of(row: &str, status: u8) -> Option<&[u8]> {
     let (_, answer) = row.split_once('|')?;
