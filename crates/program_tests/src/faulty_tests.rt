@@ -224,7 +224,8 @@ fn a_file_that_is_not_stored_is_51(rt: HostRuntime) -> Result<(), Fail> {
 }
 
 // Converts standard input to standard output, of which transfers fail. Returns the exit status and
-// the output, for which memory is reserved.
+// the output, for which memory is reserved, or an error if out of memory: the output is empty if
+// the write that failed was that of the line of 60.
 fn filtered(
     rt: &HostRuntime,
     read: Transfers,
@@ -235,6 +236,9 @@ fn filtered(
     let mut output = Strict::with(Vec::with_capacity(rt.alloc(), 1_000)?, written);
     let host = StrictHost::over(rt);
     let status = ran(&host, rt, &["plistconv"], &mut input, &mut output, to_end);
+    if output.device.is_empty() {
+        return Err(AllocError);
+    }
     Ok((with_memory(status)?, output.device))
 }
 
