@@ -7,7 +7,7 @@ pub mod WholeLemmas
 pub mod FaultyProof
 pub mod WrittenLexing
 pub mod WrittenProof
-pub mod PlainText
+pub mod UnquotedText
 pub mod MachineLemmas
 pub mod PhraseSteps
 pub mod SortingSteps

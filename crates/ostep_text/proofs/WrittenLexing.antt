@@ -14,7 +14,7 @@ use Rattle.ostep_lex.specs.Lexeme.{Lexeme, brace_open, brace_close, paren_open, 
 use Rattle.ostep_text.specs.Phrase.{Phrase, a_string, some_data, a_list, a_table, ItemsPhrase, items_end, an_item, RowsPhrase, with_value, rows_end, a_row}
 use Rattle.plist_value.specs.Writable.{is_writable, are_writable_items, are_writable_pairs}
 use Rattle.plist_value.specs.Escapes.{quoted_unit}
-use Rattle.ostep_text.specs.Written.{written_data, is_plain, written_text, written, written_items, written_pairs, are_alphanumeric}
+use Rattle.ostep_text.specs.Written.{written_data, is_unquoted, written_text, written, written_items, written_pairs, are_alphanumeric}
 use Rattle.plist_value.specs.Digits.{two_digits}
 use Rattle.ostep_lex.specs.Character.{is_run, is_white}
 use Rattle.ostep_lex.specs.Digits.{Number, begins_digit, number_from}
@@ -91,7 +91,7 @@ quotes-short xs most h = simp length-append (omega (arith, h))
 
 text-short : (units : List ℕ) → length (written_text units) ≤ 6 * length units + 2
 text-short units =
-    cond_both (is_plain units) _ _ (λ os. length os ≤ 6 * length units + 2) (λ _. omega arith) (λ _. quotes-short (flat_map quoted_unit units) (6 * length units) (units-short units))
+    cond_both (is_unquoted units) _ _ (λ os. length os ≤ 6 * length units + 2) (λ _. omega arith) (λ _. quotes-short (flat_map quoted_unit units) (6 * length units) (units-short units))
 
 digits-long : (xs : List ℕ) → length (flat_map two_digits xs) ≡ 2 * length xs
 digits-long [] = refl
@@ -231,16 +231,16 @@ token-more {p} {from} {after} {l} t d = record {
 mark-more : {p : Offsets} {c : ℕ} {rest : List ℕ} {l : Lexeme} {ls : List Lexeme} → mark_token c ≡ Some l → Lexed p rest ls → Lexed p (c ∷ rest) (l ∷ ls)
 mark-more m d = token-more (Lexeme.mark m) d
 
-plain-token : (units rest : List ℕ) → is_plain units ≡ true → begins_run rest ≡ false → IsToken (units ++ rest) (string units) rest
-plain-token [] rest e b = cc e
-plain-token (c ∷ units) rest e b =
+unquoted-token : (units rest : List ℕ) → is_unquoted units ≡ true → begins_run rest ≡ false → IsToken (units ++ rest) (string units) rest
+unquoted-token [] rest e b = cc e
+unquoted-token (c ∷ units) rest e b =
     let w = and_parts (are_alphanumeric (c ∷ units)) (not (starts_with nat_eq (c ∷ units) (codes "bplist"))) e in
     let u = and_parts (is_ascii_alphanumeric c) (are_alphanumeric units) w.0 in
     Lexeme.run (alphanumeric-run c u.0) (no_comment c (units ++ rest) (alphanumeric-slash c u.0)) (units-run units rest u.1 b)
 
 text-token : (units rest : List ℕ) → AreUnits units → begins_run rest ≡ false → IsToken (written_text units ++ rest) (string units) rest
 text-token units rest h b =
-    cond_both (is_plain units) _ _ (λ os. IsToken (os ++ rest) (string units) rest) (λ e. plain-token units rest e b)
+    cond_both (is_unquoted units) _ _ (λ os. IsToken (os ++ rest) (string units) rest) (λ e. unquoted-token units rest e b)
     (λ e. rw (append_assoc (flat_map quoted_unit units) (34 ∷ []) rest) (Lexeme.quoted refl (units-quoted units rest h)))
 
 bytes-token : (xs rest : List ℕ) → AreOctets xs → IsToken (written_data xs ++ rest) (data_token xs) rest

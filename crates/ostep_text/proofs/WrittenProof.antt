@@ -12,7 +12,7 @@ use Rattle.std.proofs.lemmas.Str.{encode_ascii}
 use lib.Utf8.{scalar as is_scalar}
 use Rattle.plist_value.specs.Writable.{is_writable}
 use Rattle.plist_value.specs.Escapes.{quoted_unit}
-use Rattle.ostep_text.specs.Written.{are_alphanumeric, is_plain, is_empty, written_text, written, written_items, written_pairs}
+use Rattle.ostep_text.specs.Written.{are_alphanumeric, is_unquoted, is_empty, written_text, written, written_items, written_pairs}
 use Rattle.plist_value.specs.Digits.{two_digits}
 use Rattle.plist_value.specs.Plist.{Scalar, text, bytes, Plist, scalar, list, table, Items, no_items, item, Pairs, no_pairs, pair, AreUnits, AreOctets, AreItems, ArePairs, IsPlist}
 use Rattle.ostep_lex.specs.Encoding.{Spells, utf8, octets_of, encoding_of, mark_of, offsets_of}
@@ -42,8 +42,8 @@ alphanumerics-ascii (unit ∷ units) e =
     let w = and_parts (is_ascii_alphanumeric unit) (are_alphanumeric units) e in
     rw (alphanumeric-ascii unit w.0) (alphanumerics-ascii units w.1)
 
-plain-ascii : (units : List ℕ) → is_plain units ≡ true → are_ascii units ≡ true
-plain-ascii units e = alphanumerics-ascii units (and_parts _ _ (and_parts _ _ e).0).1
+unquoted-ascii : (units : List ℕ) → is_unquoted units ≡ true → are_ascii units ≡ true
+unquoted-ascii units e = alphanumerics-ascii units (and_parts _ _ (and_parts _ _ e).0).1
 
 digit-ascii : (d : ℕ) → d < 16 → nat_lt (digit_char d) 128 ≡ true
 digit-ascii d h = grind (arith, nat_tests)
@@ -67,7 +67,7 @@ units-ascii (unit ∷ units) h = append-ascii (quoted_unit unit) (flat_map quote
 
 text-ascii : (units : List ℕ) → AreUnits units → are_ascii (written_text units) ≡ true
 text-ascii units h =
-    cond_both (is_plain units) _ _ (λ os. are_ascii os ≡ true) (plain-ascii units) (λ e. append-ascii (flat_map quoted_unit units) (34 ∷ []) (units-ascii units h) refl)
+    cond_both (is_unquoted units) _ _ (λ os. are_ascii os ≡ true) (unquoted-ascii units) (λ e. append-ascii (flat_map quoted_unit units) (34 ∷ []) (units-ascii units h) refl)
 
 octets-ascii : (xs : List ℕ) → AreOctets xs → are_ascii (flat_map two_digits xs) ≡ true
 octets-ascii [] h = refl
@@ -128,7 +128,7 @@ ascii-spells xs h =
 pub newline-ascii : (v : Plist) → IsPlist v → are_ascii (written v ++ codes "\n") ≡ true
 newline-ascii v h = append-ascii (written v) (codes "\n") (value-ascii v h) refl
 
--- a newline after a plain string does not make it begin like a binary file
+-- a newline after an unquoted string does not make it begin like a binary file
 abbrev has_newline : List ℕ → Bool
 has_newline [] = false
 has_newline (c ∷ rest) = (c == 10) || has_newline rest
@@ -138,14 +138,14 @@ newline-after [] xs h = refl
 newline-after (n ∷ needle) [] h = rw (or_parts (n == 10) (has_newline needle) h).0 refl
 newline-after (n ∷ needle) (x ∷ xs) h = ap (λ b. nat_eq n x && b) (newline-after needle xs (or_parts (n == 10) (has_newline needle) h).1)
 
-plain-binary : (units : List ℕ) → is_plain units ≡ true → starts_with nat_eq (units ++ 10 ∷ []) (codes "bplist") ≡ false
-plain-binary units e =
+unquoted-binary : (units : List ℕ) → is_unquoted units ≡ true → starts_with nat_eq (units ++ 10 ∷ []) (codes "bplist") ≡ false
+unquoted-binary units e =
     newline-after (codes "bplist") units refl
     ∙ not-true (starts_with nat_eq units (codes "bplist")) (and_parts (not (is_empty units) && are_alphanumeric units) (not (starts_with nat_eq units (codes "bplist"))) e).1
 
 pub not-binary : (v : Plist) → starts_with nat_eq (written v ++ codes "\n") (codes "bplist") ≡ false
 not-binary (scalar (text units)) =
-    cond_both (is_plain units) _ _ (λ os. starts_with nat_eq (os ++ 10 ∷ []) (codes "bplist") ≡ false) (plain-binary units) (λ e. refl)
+    cond_both (is_unquoted units) _ _ (λ os. starts_with nat_eq (os ++ 10 ∷ []) (codes "bplist") ≡ false) (unquoted-binary units) (λ e. refl)
 not-binary _ = refl
 
 stated : (b : Bool) (xs octets : List ℕ) → (if b then Some xs else None) ≡ Some octets → (b ≡ true) × (xs ≡ octets)

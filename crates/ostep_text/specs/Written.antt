@@ -22,13 +22,13 @@ is_empty [] = true
 is_empty (unit ∷ units) = false
 
 -- only ASCII letters and digits, at least one, and not beginning like a binary file
-abbrev pub is_plain : List ℕ → Bool
-is_plain units = not (is_empty units) && are_alphanumeric units
+abbrev pub is_unquoted : List ℕ → Bool
+is_unquoted units = not (is_empty units) && are_alphanumeric units
     && not (starts_with nat_eq units (codes "bplist"))
 
--- unchanged if the string is plain, else between quotes
+-- unchanged if the string needs no quotes, else between them
 abbrev pub written_text : List ℕ → List ℕ
-written_text units = if is_plain units then units
+written_text units = if is_unquoted units then units
     else codes "\"" ++ flat_map quoted_unit units ++ codes "\""
 
 abbrev pub written_scalar : Scalar → List ℕ

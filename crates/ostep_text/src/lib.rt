@@ -27,5 +27,5 @@ mod writing;
 pub use fault::TextFault;
 pub use read::{draft_text, read_text};
 pub use write_fault::TextWriteFault;
-pub use write_scalars::is_plain;
+pub use write_scalars::is_unquoted;
 pub use writing::write_text;

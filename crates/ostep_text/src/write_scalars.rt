@@ -4,7 +4,7 @@ ghost use Rattle.std.specs.List.{starts_with};
 ghost use Rattle.std.specs.Char.{is_ascii_alphanumeric};
 ghost use Rattle.plist_value.specs.Texts.{units_of};
 ghost use Rattle.plist_value.specs.Escapes.{quoted_unit};
-ghost use Rattle.ostep_text.specs.Written.{are_alphanumeric, is_plain};
+ghost use Rattle.ostep_text.specs.Written.{are_alphanumeric, is_unquoted};
 ghost use Rattle.ostep_text.specs.Written.{written_data, written_text};
 
 use plist_value::{TextRef, put_digits, put_quoted_unit};
@@ -23,12 +23,12 @@ pub(crate) fn put_data(out: &mut Vec<u8>, octets: &[u8]) -> Result<(), AllocErro
     Ok(())
 }
 
-// Appends the string to `out`, without quotes if it is plain.
+// Appends the string to `out`, in quotes if it needs them.
 pub(crate) fn put_text(out: &mut Vec<u8>, units: &[u16]) -> Result<(), AllocError>
     ensures { OnOk result (out.new.items ≡ out.old.items ++ written_text units.now) }
 {
     let text = TextRef::of_units(units);
-    if is_plain(&text) {
+    if is_unquoted(&text) {
         return put_units(out, &text);
     }
     out.push(b'"')?;
@@ -39,8 +39,8 @@ pub(crate) fn put_text(out: &mut Vec<u8>, units: &[u16]) -> Result<(), AllocErro
 
 /// Returns whether the string is written without quotes: it has only ASCII letters and digits, at
 /// least one, and does not begin with `bplist`.
-pub fn is_plain(text: &TextRef) -> bool
-    ensures { result ≡ is_plain (units_of text.now) }
+pub fn is_unquoted(text: &TextRef) -> bool
+    ensures { result ≡ is_unquoted (units_of text.now) }
 {
     !text.is_empty() && are_alphanumeric(text) && !begins_as_binary(text)
 }

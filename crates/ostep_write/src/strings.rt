@@ -6,13 +6,13 @@ ghost use Rattle.plist_write.specs.BufferedSink.{Emits, PutsPiece, sink_state};
 ghost use Rattle.plist_value.specs.Escapes.{quoted_unit};
 ghost use Rattle.ostep_text.specs.Written.{written_text};
 
-use ostep_text::is_plain;
+use ostep_text::is_unquoted;
 use plist_devices::Sink;
 use plist_value::{TextRef, literal_run, put_quoted_unit};
 use plist_write::{BufferedSink, WriteFault};
 use std::alloc::AllocError;
 
-// Writes a string, without quotes if it is plain.
+// Writes a string, in quotes if it needs them.
 //
 // # Errors
 //
@@ -24,7 +24,7 @@ pub(crate) fn write_string<W: Sink>(
     ensures emits { Emits (written_text (units_of text.now))
         (sink_state W.Sink out.old) (sink_state W.Sink out.new) result }
 {
-    if is_plain(text) {
+    if is_unquoted(text) {
         return write_units(text, out);
     }
     out.put(b"\"")?;

@@ -121,7 +121,7 @@ pub(crate) fn check_objects<'a, S: BuildHasher + Copy>(
     let mut order = KeyOrder::new(alloc, file);
     for i in 0..file.count() {
         match check_object(input, &mut order, i, visited.end) {
-            Ok(read) => visited.take(&read)?,
+            Ok(read) => visited.visit(&read)?,
             Err(flaw) => return Err(first_flaw(alloc, hasher, file, visited.builder, flaw)),
         }
     }

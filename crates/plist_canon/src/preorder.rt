@@ -64,7 +64,7 @@ impl<'a> Walk<'a> {
 
     // Visits the next object, which contains `object`.
     #[inline(always)]
-    pub(crate) fn meet(&mut self, object: &Object<'a>) -> Result<(), AllocError>
+    pub(crate) fn visit(&mut self, object: &Object<'a>) -> Result<(), AllocError>
         ensures { OnOk result ((f : List ℕ) (i : ℕ) → Holds f i (held_of object.now)
             → Walked f i self.old → Walked f (suc i) self.new) }
     {
@@ -82,7 +82,7 @@ impl<'a> Walk<'a> {
         let number = self.weights.len() as u64;
         self.left = spend(self.left, weight, levels);
         self.weights.push(weight)?;
-        enter(object, number, levels, &mut self.path)?;
+        push_parts(object, number, levels, &mut self.path)?;
         Ok(())
     }
 
@@ -137,7 +137,7 @@ fn next_levels(
 // Pushes the references of an object that was visited with `levels` allowed; for them one less is
 // allowed.
 #[inline(always)]
-fn enter<'a>(
+fn push_parts<'a>(
     object: &Object<'a>,
     number: u64,
     levels: u64,

@@ -37,14 +37,14 @@ impl<'a> Visited<'a> {
 
     // Visits the next object, which was decoded as `read`.
     #[inline(always)]
-    pub(crate) fn take(&mut self, read: &Spanned<'a>) -> Result<(), AllocError>
+    pub(crate) fn visit(&mut self, read: &Spanned<'a>) -> Result<(), AllocError>
         ensures { OnOk result ((f : List ℕ) (i : ℕ) → Holds f i (held_of read.now.object)
             → span_of f i ≡ Ok (read.now.start, read.now.end)
             → AreVisited f i self.old → AreVisited f (i + 1) self.new) }
     {
         self.end = read.end;
         self.builder.add(&read.object)?;
-        self.walk.meet(&read.object)?;
+        self.walk.visit(&read.object)?;
         Ok(())
     }
 }

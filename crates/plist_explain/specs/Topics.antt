@@ -1,7 +1,6 @@
 -- What can be explained, the words that name it, and what is printed.
-use Rattle.std.specs.Prelude.{◌≡◌, ◌<◌, ℕ, Bool, List, [], ◌∷◌, Option, Some, None, ◌++◌}
-use Rattle.std.specs.Prelude.{◌||◌, codes, find, flat_map, if◌then◌else◌, map, option_map}
-use Rattle.std.specs.Prelude.{unwrap_or}
+use Rattle.std.specs.Prelude.{◌≡◌, ◌<◌, ℕ, Bool, List, [], ◌∷◌, Option, Some, None, ◌++◌, ◌||◌}
+use Rattle.std.specs.Prelude.{codes, find, flat_map, if◌then◌else◌, map, option_map, unwrap_or}
 use Rattle.std.specs.Borrow.{Bor}
 use Rattle.std.specs.Char.{is_ascii_whitespace}
 use Rattle.std.specs.Option.{option_or}

@@ -25,7 +25,7 @@ pub(crate) fn reached_keys<'a>(alloc: Global, file: &BinFile<'a>) -> Result<Keys
 {
     let mut keys = Keys::none(alloc, file)?;
     let mut reached = Reached::none(alloc, file)?;
-    reached.meet(file, file.top())?;
+    reached.reach(file, file.top())?;
     for i in 0..file.count() {
         let Some(container) = reached.containers.get(i as usize).copied() else {
             return Ok(keys);
@@ -54,10 +54,10 @@ fn visit<'a>(
         return Ok(());
     }
     match file.object(object) {
-        Ok(Object::List(items)) => reached.meet_all(file, &items),
+        Ok(Object::List(items)) => reached.reach_all(file, &items),
         Ok(Object::Table(names, values)) => {
             keys.look_at_all(file, &names)?;
-            reached.meet_all(file, &values)
+            reached.reach_all(file, &values)
         }
         _ => Ok(()),
     }
@@ -76,7 +76,7 @@ impl Reached {
         })
     }
 
-    fn meet_all(&mut self, file: &BinFile, refs: &Refs) -> Result<(), AllocError>
+    fn reach_all(&mut self, file: &BinFile, refs: &Refs) -> Result<(), AllocError>
         requires { AreMarked (octets_of file.now) self.old }
         ensures { OnOk result (AreMarked (octets_of file.now) self.new) }
     {
@@ -88,13 +88,13 @@ impl Reached {
             return Ok(());
         }
         for i in 0..refs.len() {
-            self.meet(file, refs.get(i))?;
+            self.reach(file, refs.get(i))?;
         }
         Ok(())
     }
 
     // Marks and enters the object, if it is a container that was not seen before.
-    fn meet(&mut self, file: &BinFile, object: u64) -> Result<(), AllocError>
+    fn reach(&mut self, file: &BinFile, object: u64) -> Result<(), AllocError>
         requires { AreMarked (octets_of file.now) self.old }
         ensures { OnOk result (AreMarked (octets_of file.now) self.new) }
     {

@@ -104,7 +104,7 @@ impl<'a> TextRef<'a> {
         ensures { result ≡ slice_index (units_of self.now) i }
     {
         match self.kept {
-            Kept::Units(units) => plain_unit(units, i),
+            Kept::Units(units) => unit_at(units, i),
             Kept::Ascii(ascii) => u16::from(ascii.text.as_bytes()[i]),
             Kept::Wide(octets) => wide_unit(octets, i),
         }
@@ -199,7 +199,7 @@ fn is_each_ascii(text: &TextRef) -> bool
     true
 }
 
-fn plain_unit(units: &[u16], i: usize) -> u16
+fn unit_at(units: &[u16], i: usize) -> u16
     requires { i < length units.now }
     ensures { result ≡ slice_index units.now i }
 {

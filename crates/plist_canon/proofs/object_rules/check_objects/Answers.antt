@@ -22,7 +22,7 @@ loop-i-preserved g c =
     let before = c.loop-i.invariant in
     record {
       ready = told.ready;
-      visited = c.in_ok-take-in-Ok.ensures f i told.holds told.span before.visited;
+      visited = c.in_ok-visit-in-Ok.ensures f i told.holds told.span before.visited;
       checked = below_or_last (λ j. IsChecked f j) i before.checked told.checked;
     }
 

@@ -4,7 +4,7 @@ use Rattle.plist_object.specs.Layout.{trailer_of}
 use Rattle.plist_object.specs.Views.{held_of}
 use Rattle.plist_canon.specs.declared.preorder.Walk.{Walk}
 use Rattle.plist_canon.proofs.Paths.{SeenInTurn-more, Walked-broken, Walked-seen}
-use Rattle.plist_canon.proofs.preorder.Walk.meet.Goals as goal
+use Rattle.plist_canon.proofs.preorder.Walk.visit.Goals as goal
 
 pub returns-then-is_some : goal.returns-then-is_some
 returns-then-is_some c =
@@ -21,10 +21,10 @@ returns-in-Err c = λ f i holds walked.
 pub returns : goal.returns
 returns c = λ f i holds walked.
     let old = c.args.self.now in
-    let new : Walk = record { weights = c.push.new.self; path = c.enter.new.path; left = c.spend-self.result; broken_at = old.broken_at } in
+    let new : Walk = record { weights = c.push.new.self; path = c.push_parts.new.path; left = c.spend-self.result; broken_at = old.broken_at } in
     let whole : is_some old.broken_at ≡ false = cc in
     let number_is : c.len-number.result ≡ length old.weights.items = omega (arith, old.weights.ok.0) in
     let seen = (Walked-seen f i old whole).0 walked in
     let awaits = (rw c.deref.ensures.value at c.in-Ok.ensures) f seen.weighed seen.stands in
     let held = held_of c.args.object.now in
-    (Walked-seen f (suc i) new whole).1 (SeenInTurn-more f i c.len-number.result c.in-Ok.levels held old new c.of-weight.result c.next_levels.new.left _ holds seen c.of-weight.ensures awaits c.spend-self.ensures c.in_ok-push.ensures.items number_is c.in_ok-enter.ensures)
+    (Walked-seen f (suc i) new whole).1 (SeenInTurn-more f i c.len-number.result c.in-Ok.levels held old new c.of-weight.result c.next_levels.new.left _ holds seen c.of-weight.ensures awaits c.spend-self.ensures c.in_ok-push.ensures.items number_is c.in_ok-push_parts.ensures)
