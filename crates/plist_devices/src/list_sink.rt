@@ -20,7 +20,8 @@ pub struct ListSink {
 }
 
 impl ListSink {
-    ghost use Rattle.plist_devices.specs.ListSink.{list_sink_taken, sink_room, sink_step, list_sink_failures};
+    ghost use Rattle.plist_devices.specs.ListSink.{list_sink_taken, sink_room, sink_step};
+    ghost use Rattle.plist_devices.specs.ListSink.{list_sink_failures};
     ghost use Rattle.plist_devices.specs.ListSink.{FailsAt};
 
     /// Creates an empty sink and reserves memory for `room` bytes. `step` must be above 0.
@@ -60,7 +61,8 @@ impl ListSink {
 }
 
 impl Sink for ListSink {
-    ghost use Rattle.plist_devices.specs.ListSink.{list_sink_taken, sink_room, sink_step, list_sink_failures};
+    ghost use Rattle.plist_devices.specs.ListSink.{list_sink_taken, sink_room, sink_step};
+    ghost use Rattle.plist_devices.specs.ListSink.{list_sink_failures};
     ghost use Rattle.plist_devices.specs.ListSink.{FailsAt};
 
     ghost taken = { λ sink. Some (list_sink_taken sink) };

@@ -32,7 +32,8 @@ impl<R: Read> ReaderSource<R> {
 }
 
 impl<D: ReadDevice> Source for ReaderSource<D> {
-    ghost use Rattle.plist_devices.specs.ReaderSource.{reader_device, octets_to_come, reader_failures};
+    ghost use Rattle.plist_devices.specs.ReaderSource.{reader_device, octets_to_come};
+    ghost use Rattle.plist_devices.specs.ReaderSource.{reader_failures};
 
     ghost remaining = { octets_to_come D.remaining };
 

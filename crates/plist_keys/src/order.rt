@@ -12,7 +12,8 @@ ghost use Rattle.plist_object.specs.Objects.{holds_scalar};
 ghost use Rattle.plist_object.specs.Places.{Holds};
 ghost use Rattle.plist_object.specs.Views.{numbers_of, octets_of};
 ghost use Rattle.plist_keys.specs.Order.{Ascend, IsInOrder, NameTexts};
-ghost use Rattle.plist_keys.specs.KeyOrder.{AreRows, AreTexts, IsRankOf, IsReady, IsSortedIn, TellsOrder};
+ghost use Rattle.plist_keys.specs.KeyOrder.{AreRows, AreTexts, IsRankOf, IsReady, IsSortedIn};
+ghost use Rattle.plist_keys.specs.KeyOrder.{TellsOrder};
 ghost use Rattle.plist_keys.specs.KeyOrder.{by_number, sort_key, index_of, indices_of, row_units};
 ghost use Rattle.plist_keys.specs.Ranks.{AreRanks};
 

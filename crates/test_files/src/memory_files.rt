@@ -1,5 +1,6 @@
 //! Files in memory.
-ghost use Rattle.std.specs.Prelude.{◌≡◌, ◌^◌, ◌-◌, ℕ, IfErr, IfOk, IsTrue, OnErr, None, Some, option_map};
+ghost use Rattle.std.specs.Prelude.{◌≡◌, ◌^◌, ◌-◌, ℕ, IfErr, IfOk, IsTrue, OnErr, None, Some};
+ghost use Rattle.std.specs.Prelude.{option_map};
 ghost use Rattle.std.specs.IoError.{error_kind};
 ghost use Rattle.plist_convert.specs.Files.{FileName, SameBeside, SameFiles};
 ghost use Rattle.plist_convert.specs.Opens.{IsUnopened, Puts, ReadsAll};
