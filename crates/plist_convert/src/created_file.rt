@@ -14,15 +14,17 @@ ghost use Rattle.plist_convert.specs.OneProof.{same-prop};
 
 use crate::opens::{Created, Opens};
 use plist_devices::{DeviceFault, Sink};
+use plist_forms::Form;
 use std::alloc::Global;
 use std::io;
 use std::io::ErrorKind;
 use std::marker::{Brand, PhantomData};
 
-// The path of a file that is to be created.
+// The path of a file that is to be created, and the form of its contents.
 #[derive(Drop)]
 pub(crate) struct Target<'p> {
     pub(crate) path: &'p str,
+    pub(crate) form: Form,
 }
 
 // What a type knows of a file that is to be created.

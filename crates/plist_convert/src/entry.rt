@@ -8,6 +8,7 @@ ghost use Rattle.plist_convert.specs.State.{input_of, run_state};
 
 use crate::answers::Task;
 use crate::arguments::read_words;
+use crate::created_file::Target;
 use crate::executing::{answer_files, compare_files, convert_file, explain_what, print_file};
 use crate::file_disk::FileDisk;
 use crate::filtering::filter;
@@ -134,7 +135,9 @@ fn execute<O: Steady, H: BuildHasher + Copy, S: Source, W: Sink>(
 {
     match request {
         Request::Filter => filter(alloc, disk.hasher, input, output),
-        Request::Convert { form, from, to } => convert_file(alloc, disk, form, from, to, output),
+        Request::Convert { form, from, to } => {
+            convert_file(alloc, disk, from, Target { path: to, form }, output)
+        }
         Request::Same { first, second } => compare_files(alloc, disk, first, second, output),
         Request::Lint { paths } => answer_files(alloc, disk, Task::Lint, paths.as_slice(), output),
         Request::Check { named, paths } => {

@@ -8,12 +8,13 @@ ghost use Rattle.plist_convert.specs.Runs.{IsRunOfEach, IsSameRun, path_of_fault
 ghost use Rattle.plist_convert.specs.State.{run_state, state};
 
 use crate::answers::{Task, explain_answer, same_answer, task_answer};
+use crate::created_file::Target;
 use crate::file_disk::FileDisk;
 use crate::filtering::STANDARD;
 use crate::opens::Steady;
 use crate::printing::{have_failed, print_answer, print_refusal};
 use plist_devices::Sink;
-use plist_forms::{Fault, Form, Status, print};
+use plist_forms::{Fault, Status, print};
 use std::alloc::Global;
 use std::hash::BuildHasher;
 
@@ -106,12 +107,11 @@ fn octets_or<'a>(known: &'a [u8], found: &'a Option<Vec<u8>>) -> &'a [u8]
 pub(crate) fn convert_file<O: Steady, H: BuildHasher + Copy, W: Sink>(
     alloc: Global,
     disk: &mut FileDisk<O, H>,
-    form: Form,
     from: &str,
-    to: &str,
+    to: Target,
     output: &mut W,
 ) -> u8
-    ensures run { IsConvertRun form from.now to.now
+    ensures run { IsConvertRun to.entry.form from.now to.entry.path.now
         (run_state O.files W.taken W.failures disk.old output.old)
         (run_state O.files W.taken W.failures disk.new output.new) result }
     ensures same { W.device output.new ≡ W.device output.old }
@@ -120,9 +120,9 @@ pub(crate) fn convert_file<O: Steady, H: BuildHasher + Copy, W: Sink>(
         Ok(octets) => octets,
         Err(fault) => return print_refusal(alloc, from, &fault, output),
     };
-    match disk.store(alloc, to, octets, form) {
+    match disk.store(alloc, to.path, octets, to.form) {
         Ok(_) => Status::Done.code(),
-        Err(fault) => print_refusal(alloc, path_of(&fault, from, to), &fault, output),
+        Err(fault) => print_refusal(alloc, path_of(&fault, from, to.path), &fault, output),
     }
 }
 

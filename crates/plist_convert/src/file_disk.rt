@@ -120,14 +120,13 @@ impl<O: Steady, H: BuildHasher + Copy> FileDisk<O, H> {
         ensures full { IfErr result (λ fault. IfSome (files_of O.files self.old)
             (λ _. IsFullAt form octets.items (limit_of O.limit self.old) fault)) }
     {
-        let target = Target { path };
+        let target = Target { path, form };
         let stored = write_target::<O, H, Brand>(
             &mut self.opener,
             alloc,
             self.hasher,
             target,
             octets,
-            form,
         );
         self.failures = failures_after(self.failures, &stored);
         stored
@@ -180,8 +179,8 @@ fn failures_after<T>(failures: u64, ended: &Result<T, Fault>) -> u64
     }
 }
 
-// Converts the bytes to this form and writes the output to the file of the target, which is
-// created at the first write and closed after the last.
+// Converts the bytes to the form of the target and writes the output to its file, which is created
+// at the first write and closed after the last.
 //
 // # Errors
 //
@@ -192,22 +191,21 @@ fn write_target<O: Opens, H: BuildHasher + Copy, K: KnownTarget>(
     hasher: H,
     target: Target,
     octets: Vec<u8>,
-    form: Form,
 ) -> Result<u64, Fault>
     requires path { target.path.now ≡ K.path }
     requires files { O.files opener.old ≡ K.files }
     requires limit { O.limit opener.old ≡ K.limit }
     ensures stores { (before : ℕ) (after : ℕ) → CountsFailure before after result
-        → Stores form octets.items (O.files opener.old) (O.files opener.new) before after
-        target.entry.path.now result }
+        → Stores target.entry.form octets.items (O.files opener.old) (O.files opener.new)
+        before after target.entry.path.now result }
     ensures limit { O.limit opener.new ≡ O.limit opener.old }
     ensures fits { IfOk result (λ count.
         IfSome (O.files opener.old) (λ _. count ≤ O.limit opener.old)) }
     ensures full { IfErr result (λ fault. IfSome (O.files opener.old)
-        (λ _. IsFullAt form octets.items (O.limit opener.old) fault)) }
+        (λ _. IsFullAt target.entry.form octets.items (O.limit opener.old) fault)) }
 {
     let mut file: CreatedFile<O, K> = CreatedFile::new(alloc, opener, target.path);
-    let sent = convert_octets(alloc, hasher, octets, &mut file, form);
+    let sent = convert_octets(alloc, hasher, octets, &mut file, target.form);
     let CreatedFile {
         opener,
         created,

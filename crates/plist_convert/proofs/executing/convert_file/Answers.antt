@@ -14,12 +14,12 @@ pub returns-in-Ok-store-clause-run : goal.returns-in-Ok-store-clause-run
 returns-in-Ok-store-clause-run g c =
     let middle = run_state g.O.Opens.files g.W.Sink.taken g.W.Sink.failures c.load.new.self c.args.output.now in
     let loads = c.in-Ok.ensures.loads in
-    rw c.code.ensures.code (converted c.args.form c.in-Ok.octets.items c.args.from.now c.args.to.now _ middle _ c.in-Ok-store.field-0
+    rw c.code.ensures.code (converted c.args.to.form c.in-Ok.octets.items c.args.from.now c.args.to.path.now _ middle _ c.in-Ok-store.field-0
     loads.found loads.kept loads.unfailed refl refl c.in-Ok-store.ensures.stores)
 
 pub returns-in-Err-store-clause-run : goal.returns-in-Err-store-clause-run
 returns-in-Err-store-clause-run g c =
     let middle = run_state g.O.Opens.files g.W.Sink.taken g.W.Sink.failures c.load.new.self c.args.output.now in
     let loads = c.in-Ok.ensures.loads in
-    unconverted c.args.form c.in-Ok.octets.items c.args.from.now c.args.to.now _ middle _ c.print_refusal-in-Err-store.result c.in-Err-store.fault
+    unconverted c.args.to.form c.in-Ok.octets.items c.args.from.now c.args.to.path.now _ middle _ c.print_refusal-in-Err-store.result c.in-Err-store.fault
     loads.found loads.kept loads.unfailed c.in-Err-store.ensures.stores (rw c.path_of.ensures at c.print_refusal-in-Err-store.ensures.ends)

@@ -12,8 +12,8 @@ returns-in_err-is_kept-clause-stores g c = λ before after counts.
     let sends = rw (c.new-file.ensures.created, c.new-file.ensures.failures) at c.convert_octets-sent.ensures.writes in
     let kept = c.in_err-is_kept.ensures.unchanged in
     let e = err_from_is_err_and c.from_residual.result c.from_residual.ensures.1 in
-    rw (c.requires.files, c.requires.path, e.1, e.2) (ending_with c.args.form c.args.octets.items _ _ _ before after _ _ (search rules)
-    (unclosed c.args.form c.args.octets.items _ _ _ before after _ file.failures _ (emptied_same _ _ _ _ file.emptied kept)
+    rw (c.requires.files, c.requires.path, e.1, e.2) (ending_with c.args.target.form c.args.octets.items _ _ _ before after _ _ (search rules)
+    (unclosed c.args.target.form c.args.octets.items _ _ _ before after _ file.failures _ (emptied_same _ _ _ _ file.emptied kept)
     (unchanged g.O.Writer.Write.contents _ _ _ file.created file.failures file.begun file.same (λ _. kept)) sends (rw (e.1, e.2) at counts)))
 
 pub returns-clause-stores : goal.returns-clause-stores
@@ -23,8 +23,8 @@ returns-clause-stores g c = λ before after counts.
     let sends = rw (c.new-file.ensures.created, c.new-file.ensures.failures) at c.convert_octets-sent.ensures.writes in
     let close = c.in_ok-is_kept.ensures in
     let is_kept = c.in_ok-is_kept.is_kept in
-    rw (c.requires.files, c.requires.path, c.told.ensures) (ending_with c.args.form c.args.octets.items _ _ _ before after _ _ (search rules)
-    (closed c.args.form c.args.octets.items _ _ _ before after _ file.failures c.convert_octets-sent.result is_kept file.needs_memory
+    rw (c.requires.files, c.requires.path, c.told.ensures) (ending_with c.args.target.form c.args.octets.items _ _ _ before after _ _ (search rules)
+    (closed c.args.target.form c.args.octets.items _ _ _ before after _ file.failures c.convert_octets-sent.result is_kept file.needs_memory
     (λ lost. unknown_before _ _ _ file.emptied (close.lost lost))
     (left writes _ _ _ _ file.created is_kept file.placed file.begun file.emptied close.settles close.lost)
     (unchanged writes _ _ _ file.created file.failures file.begun file.same (unsettled writes _ _ file.created is_kept close.settles close.lost))
@@ -34,6 +34,6 @@ pub returns-clause-full : goal.returns-clause-full
 returns-clause-full g c =
     let file = c.convert_octets-sent.new.to in
     let sends = rw (c.new-file.ensures.created, c.new-file.ensures.failures) at c.convert_octets-sent.ensures.writes in
-    rw (c.requires.files, c.requires.limit, c.told.ensures) (is_full c.args.form c.args.octets.items _ file.failures _
+    rw (c.requires.files, c.requires.limit, c.told.ensures) (is_full c.args.target.form c.args.octets.items _ file.failures _
     (option_map (written_of g.O.Writer.Write.contents) file.created) c.convert_octets-sent.result c.in_ok-is_kept.is_kept file.needs_memory
     (λ lost. unknown_before _ _ _ file.emptied (c.in_ok-is_kept.ensures.lost lost)) file.within file.full sends)
