@@ -6,8 +6,8 @@ usage: bench/commands.py [PLISTCONV]   (the program to measure, ./plistconv if n
 The first table has the files of bench.py, and two arrays of references to one boolean, whose print
 is far longer than they are. Time is processor time, the least of five runs in turns. `same` compares
 a file with itself, and `write` writes as many bytes as `print` does. On some files a check may take
-0.6 of the time of a conversion, `same` 1.3 of that of `lint`, and a print twice that of converting
-and writing. A print may take 1 MiB more memory than `lint`, and as much beside either array.
+0.6 of the time of a conversion, `same` 1.3 of that of `lint`, and a print twice that of a
+conversion. A print may take 1 MiB more memory than `lint`, and as much beside either array.
 
 The second table has one call with 1,000 small files beside a call for each: it prints the same
 lines in a tenth of the time, and with a large file among them takes a tenth more memory than for
@@ -86,7 +86,7 @@ def of_files(program, measure):
             hold(time["check"], 0.6 * time["convert"], f"{name}: seconds of check")
             hold(time["same"], 1.3 * time["lint"], f"{name}: seconds of same")
         if name in PRINTED:
-            hold(time["print"], 2 * (time["convert"] + time["write"]), f"{name}: seconds of print")
+            hold(time["print"], 2 * time["convert"], f"{name}: seconds of print")
         hold(memory["print"], memory["lint"] + MEBIBYTE, f"{name}: memory of print")
         beside += [memory["print"] - size] * (name in REFERENCES)
     hold(max(beside) - min(beside), MEBIBYTE, "memory of print that grows with the output")
