@@ -15,7 +15,7 @@ use Rattle.ostep_lex.specs.Lexeme
 use Rattle.ostep_lex.specs.Lexeme.{Lexeme, IsToken, Located}
 use Rattle.ostep_lex.specs.Lexing.{Lexes, none, next, HasTokens, HasNoTokens}
 use Rattle.ostep_lex.specs.Stands
-use Rattle.ostep_lex.specs.Stands.{White, is_of_data, begins_xml, EscapeFault, QuotedFault, OctetsFault, FaultAt, FaultAfterGap, HasFault, HasXml, StandsInTokens}
+use Rattle.ostep_lex.specs.Stands.{White, is_of_data, begins_white, begins_xml, EscapeFault, QuotedFault, OctetsFault, FaultAt, FaultAfterGap, HasFault, HasXml, StandsInTokens}
 use Rattle.ostep_lex.specs.Laws.{OneLexing, TokensContinue, FaultyHasNone}
 use Rattle.ostep_lex.specs.Digits.{number_from}
 use Rattle.ostep_lex.specs.Quoted
@@ -88,13 +88,38 @@ either : (a b : Bool) → (a || b) ≡ true → (a ≡ true) ⊎ (b ≡ true)
 either true b e = inl refl
 either false b e = inr e
 
-xml-lexes : {p : Offsets} {text : List ℕ} {tokens : List Located} → begins_xml text ≡ true → Lexes p text tokens → ⊥
-xml-lexes {text = text} e l =
+-- what begins like one begins with `<` and a character not allowed in data
+record IsAngled (text : List ℕ) : Type 0 where
+  second : ℕ
+  rest : List ℕ
+  first : text ≡ 60 ∷ second ∷ rest
+  other : is_of_data second ≡ false
+
+xml-angled : (text : List ℕ) → begins_xml text ≡ true → IsAngled text
+xml-angled text e =
     ⊎_elim
-    (λ f. ⊎_elim (λ g. begins-lexes 63 _ (after_mark text (codes "<?xml") g) refl l) (λ g. begins-lexes 33 _ (after_mark text (codes "<!DOCTYPE") g) refl l)
+    (λ f. ⊎_elim
+    (λ g. record { second = 63; rest = _; first = after_mark text (codes "<?xml") g; other = refl })
+    (λ g. record { second = 33; rest = _; first = after_mark text (codes "<!DOCTYPE") g; other = refl })
     (either (starts_with nat_eq text (codes "<?xml")) (starts_with nat_eq text (codes "<!DOCTYPE")) f))
-    (λ f. begins-lexes 112 _ (after_mark text (codes "<plist") f) refl l)
+    (λ f. record { second = 112; rest = _; first = after_mark text (codes "<plist") f; other = refl })
     (either (starts_with nat_eq text (codes "<?xml") || starts_with nat_eq text (codes "<!DOCTYPE")) (starts_with nat_eq text (codes "<plist")) e)
+
+xml-lexes : {p : Offsets} {text : List ℕ} {tokens : List Located} → begins_xml text ≡ true → Lexes p text tokens → ⊥
+xml-lexes {text = text} e l = let a = xml-angled text e in begins-lexes a.second a.rest a.first a.other l
+
+-- the first character that is not whitespace is unique
+pub white_same : {c : ℕ} {text from after : List ℕ} → White text from → begins_white from ≡ false → is_white c ≡ false → White text (c ∷ after) → from ≡ c ∷ after
+white_same Stands.none f n Stands.none = refl
+white_same Stands.none f n (Stands.more w r) = cc
+white_same (Stands.more w r) f n Stands.none = cc
+white_same (Stands.more w r) f n (Stands.more v s) = white_same r f n s
+
+-- an XML property list is after all whitespace
+pub White-xml : {text from other : List ℕ} → White text from → begins_white from ≡ false → White text other → begins_xml other ≡ true → from ≡ other
+White-xml {other = other} w n v e =
+    let a = xml-angled other e in
+    white_same w n refl (subst (White _) a.first v) ∙ sym a.first
 
 pub HasXml-none : {octets : List ℕ} {at : ℕ} → HasXml octets at → HasNoTokens octets
 HasXml-none h tokens t = xml-lexes h.begins (White-lexes h.white (lexes_at h.spells t))

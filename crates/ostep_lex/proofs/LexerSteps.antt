@@ -10,7 +10,7 @@ use Rattle.ostep_lex.specs.declared.cursor.Cursor.{Cursor}
 use Rattle.ostep_lex.specs.Encoding.{offset, Offsets, offsets_of}
 use Rattle.ostep_lex.specs.Cursor.{ahead, offsets_in, offset_at, SameInput, PassesPiece, PassesGap, PassesToken, Opens, IsAfter, UnlessMemory, PassesStretch, PassesRun, PassesQuoted}
 use Rattle.ostep_lex.specs.declared.fault.LexFault.TheVariants.{UnclosedComment, UnexpectedCharacter}
-use Rattle.ostep_lex.specs.Stands.{FaultAt, White, LacksMark, QuotedFault, OctetsFault, begins_other, FaultAfterGap, HasFault, HasXml, begins_xml, StandsInTokens}
+use Rattle.ostep_lex.specs.Stands.{FaultAt, White, LacksMark, QuotedFault, OctetsFault, begins_other, begins_white, FaultAfterGap, HasFault, HasXml, begins_xml, StandsInTokens}
 use Rattle.ostep_lex.specs.Stands
 use Rattle.ostep_lex.specs.Lexeme.{Lexeme, mark_token, IsToken, Located, located}
 use Rattle.ostep_lex.specs.Quoted
@@ -22,7 +22,8 @@ use Rattle.ostep_lex.specs.declared.token.Token.{Token}
 use Rattle.ostep_lex.specs.Lexing.{LexesTo, here, HasTokens, HasNoTokens}
 use Rattle.ostep_lex.specs.declared.stretch.Class.TheVariants.{Run as RunClass, Raw}
 use Rattle.ostep_lex.proofs.TokenLemmas.{or_left, or_right, mark-white, LexesTo-more, LexesTo-all, white-run}
-use Rattle.ostep_lex.proofs.LawProofs.{stands_unless, HasFault-none}
+use Rattle.ostep_lex.proofs.LawProofs.{stands_unless, HasFault-none, White-xml, white_same}
+use Rattle.ostep_lex.proofs.TextLemmas.{Spells-same}
 use Rattle.ostep_lex.proofs.PieceSteps.{piece_shorter, octets_piece_shorter, quoted_close}
 use Rattle.ostep_lex.proofs.StretchLemmas.{run_stretch, quoted_stretch}
 
@@ -86,21 +87,9 @@ comment_fault cursor text at e n p =
 pub white_more : {c : ℕ} {text rest end : List ℕ} → text ≡ c ∷ rest → is_white c ≡ true → White rest end → White text end
 white_more {end = end} e w r = subst (λ x. White x end) (sym e) (Stands.more w r)
 
-begins_white : List ℕ → Bool
-begins_white [] = false
-begins_white (c ∷ rest) = is_white c
-
 pub white_gap : {text rest : List ℕ} → White text rest → Gap text rest
 white_gap Stands.none = Gap.none
 white_gap (Stands.more w r) = Gap.piece (Gap.white w) (white_gap r)
-
--- the first character that is not whitespace is unique
-white_same : {c : ℕ} {text from after : List ℕ} → White text from → begins_white from ≡ false → is_white c ≡ false → White text (c ∷ after) → from ≡ c ∷ after
-unfolding begins_white
-white_same Stands.none f n Stands.none = refl
-white_same Stands.none f n (Stands.more w r) = cc
-white_same (Stands.more w r) f n Stands.none = cc
-white_same (Stands.more w r) f n (Stands.more v s) = white_same r f n s
 
 not_white : (c : ℕ) (lexeme : Lexeme) → mark_token c ≡ Some lexeme → is_white c ≡ false
 not_white c lexeme m = elim (cases_Bool (is_white c)) [ inl w ↦ absurd (mark-white c lexeme m w) | inr n ↦ n ]
@@ -121,11 +110,9 @@ lacks : {text from : List ℕ} (mark : ℕ) → White text from → begins_white
 lacks mark w f other lexeme after m r = other after (white_same w f (not_white mark lexeme m) r)
 
 pub lacks_other : {text from rest : List ℕ} (mark c : ℕ) → White text from → from ≡ c ∷ rest → is_white c ≡ false → (c == mark) ≡ false → LacksMark mark text
-unfolding begins_white
 lacks_other {from = from} mark c w e n d = lacks mark w (subst (λ t. begins_white t ≡ false) (sym e) n) (λ after s. other_first mark c _ after d (sym e ∙ s))
 
 pub lacks_all : {text from : List ℕ} (mark : ℕ) → White text from → from ≡ [] → LacksMark mark text
-unfolding begins_white
 lacks_all mark w e = lacks mark w (subst (λ t. begins_white t ≡ false) (sym e) refl) (λ after s. cc (sym e ∙ s))
 
 pub token_mark : (c : ℕ) (l : Lexeme) (text rest : List ℕ) → text ≡ c ∷ rest → mark_token c ≡ Some l → IsToken text l rest
@@ -267,6 +254,11 @@ found_more found new token e = sym (ap (map located) e ∙ map-append located fo
 -- no token precedes the start
 pub opens_after : {octets : List ℕ} {cursor : Cursor} → Opens octets cursor → IsAfter octets [] cursor
 opens_after {cursor = cursor} o = record { before = record { text = ahead cursor; spells = o.spells; lexes = here }; offsets = o.offsets }
+
+pub opens_other : {octets : List ℕ} (cursor after : Cursor) → Opens octets cursor → White (ahead cursor) (ahead after) → begins_white (ahead after) ≡ false
+    → begins_xml (ahead after) ≡ false → (at : ℕ) → ¬ HasXml octets at
+opens_other cursor after o w n b at h =
+    cc (b, h.begins, ap begins_xml (White-xml w n (subst (λ text. White text h.from) (Spells-same h.spells o.spells) h.white) h.begins))
 
 pub opens_xml : {octets : List ℕ} (cursor after : Cursor) {at : ℕ} → Opens octets cursor → White (ahead cursor) (ahead after) → SameInput cursor after
     → begins_xml (ahead after) ≡ true → at ≡ offset_at after → HasXml octets at

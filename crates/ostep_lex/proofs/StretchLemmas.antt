@@ -12,11 +12,11 @@ use Rattle.std.specs.Char.Escape.{encode_utf16}
 use lib.Utf8.{encode}
 use Rattle.ostep_lex.specs.declared.stretch.Class.{Class}
 use Rattle.ostep_lex.specs.Stretch.{belongs, is_stretch, BeginsWithStretch, LeadsStretch, BeginsWithUnits}
-use Rattle.ostep_lex.specs.declared.source.Source.{Source}
-use Rattle.ostep_lex.specs.declared.source.Source.TheVariants.{Utf8, Utf16}
-use Rattle.ostep_lex.specs.declared.source.ByteOrder.{ByteOrder}
+use Rattle.ostep_lex.specs.declared.remaining.Remaining.{Remaining}
+use Rattle.ostep_lex.specs.declared.remaining.Remaining.TheVariants.{Utf8, Utf16}
+use Rattle.ostep_lex.specs.declared.remaining.ByteOrder.{ByteOrder}
 use Rattle.ostep_lex.specs.Encoding.{spelling, octets_of, Offsets}
-use Rattle.ostep_lex.specs.Source.{encoding_by, unit_octets, units_in, utf16_characters, IsWhole}
+use Rattle.ostep_lex.specs.Remaining.{encoding_by, unit_octets, units_in, utf16_characters, IsWhole}
 use Rattle.ostep_lex.specs.declared.stretch.Class.TheVariants.{Run, White, Raw, Line, Starless}
 use Rattle.ostep_lex.specs.declared.cursor.Cursor.{Cursor}
 use Rattle.ostep_lex.specs.declared.fault.LexFault.{LexFault}
@@ -101,9 +101,9 @@ cut {kind} {text} {after} f u =
     let at : length f.front ≡ length text - length after = omega (arith, length-append f.front after, ap length f.split) in
     subst (λ n. Cut kind text after n) at (subst (λ t. Cut kind t after (length f.front)) (sym f.split) (cut_seam kind f.front after f.stretch (subst IsUtf8 f.split u)))
 
-pub leads_stretch : {kind : Class} {source : Source} {text after : Bor (List ℕ)} {front : List ℕ} → source ≡ Utf8 text → is_stretch 128 kind front ≡ true
-    → chars text.now ≡ front ++ chars after.now → text.now ≡ front ++ after.now → IsUtf8 after.now → LeadsStretch kind source front (Utf8 after)
-leads_stretch {kind} {source} {text} {after} {front} e s t o u = subst (λ x. LeadsStretch kind x front (Utf8 after)) (sym e)
+pub leads_stretch : {kind : Class} {remaining : Remaining} {text after : Bor (List ℕ)} {front : List ℕ} → remaining ≡ Utf8 text → is_stretch 128 kind front ≡ true
+    → chars text.now ≡ front ++ chars after.now → text.now ≡ front ++ after.now → IsUtf8 after.now → LeadsStretch kind remaining front (Utf8 after)
+leads_stretch {kind} {remaining} {text} {after} {front} e s t o u = subst (λ x. LeadsStretch kind x front (Utf8 after)) (sym e)
     (record { stretch = ascii_stretch kind front s; text = t; whole = whole_utf8 after u; encoding = refl; shorter = omega (arith, length-append front after.now, ap length o) })
 
 low : (c : ℕ) (b : Bool) → (nat_lt c 0xD800 && b) ≡ true → c < 0xD800
@@ -165,9 +165,9 @@ after_front kind order (c ∷ cs) octets after s e w =
     let r = after_front kind order cs mid after (and_right (nat_lt c 0xD800 && belongs kind c) (is_stretch 0xD800 kind cs) s) refl (WholeText-after w t first) in
     record { text = t ∙ ap (λ w. c ∷ w) r.text; whole = r.whole; shorter = omega (arith, r.shorter, length-append (spelling o c) mid, ap length first) }
 
-pub leads_units : {kind : Class} {order : ByteOrder} {source : Source} {octets after : Bor (List ℕ)} → source ≡ Utf16 order octets → IsWhole source
-    → (a : BeginsWithUnits kind order octets.now after.now) → LeadsStretch kind source a.front (Utf16 order after)
-leads_units {kind} {order} {source} {octets} {after} e w a = subst (λ s. IsWhole s → LeadsStretch kind s a.front (Utf16 order after)) (sym e)
+pub leads_units : {kind : Class} {order : ByteOrder} {remaining : Remaining} {octets after : Bor (List ℕ)} → remaining ≡ Utf16 order octets → IsWhole remaining
+    → (a : BeginsWithUnits kind order octets.now after.now) → LeadsStretch kind remaining a.front (Utf16 order after)
+leads_units {kind} {order} {remaining} {octets} {after} e w a = subst (λ s. IsWhole s → LeadsStretch kind s a.front (Utf16 order after)) (sym e)
     (λ v. let b = after_front kind order a.front octets.now after.now a.stretch a.split (record { scalars = v.scalars; spelled = v.spelled }) in
     record { stretch = a.stretch; text = b.text; whole = record { scalars = b.whole.scalars; spelled = b.whole.spelled }; encoding = refl; shorter = b.shorter }) w
 

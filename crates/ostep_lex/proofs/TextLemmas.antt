@@ -14,11 +14,11 @@ use Rattle.std.proofs.Math.Seq.{take-append_seam}
 use lib.Utf8.{scalar, scalar_cases, encode}
 use lib.Pointwise.{bytes_decides}
 use Rattle.ostep_lex.specs.Encoding.{Encoding, utf8, spelling, octets_of, BeginsWith, BeginsWithNone, StopsAfter, utf16_big, utf16_little, mark_of, encoding_of, Spells, StopsAt}
-use Rattle.ostep_lex.specs.Source.{FrontsOf, encoding_by, unit_octets, units_in, utf16_characters, characters_in, IsWhole, Leads}
-use Rattle.ostep_lex.specs.declared.source.ByteOrder.{ByteOrder}
-use Rattle.ostep_lex.specs.declared.source.ByteOrder.TheVariants.{Big, Little}
-use Rattle.ostep_lex.specs.declared.source.Source.{Source}
-use Rattle.ostep_lex.specs.declared.source.Source.TheVariants.{Utf8, Utf16}
+use Rattle.ostep_lex.specs.Remaining.{FrontsOf, encoding_by, unit_octets, units_in, utf16_characters, characters_in, IsWhole, Leads}
+use Rattle.ostep_lex.specs.declared.remaining.ByteOrder.{ByteOrder}
+use Rattle.ostep_lex.specs.declared.remaining.ByteOrder.TheVariants.{Big, Little}
+use Rattle.ostep_lex.specs.declared.remaining.Remaining.{Remaining}
+use Rattle.ostep_lex.specs.declared.remaining.Remaining.TheVariants.{Utf8, Utf16}
 
 pub octets_of-append : (e : Encoding) (xs ys : List ℕ) → octets_of e (xs ++ ys) ≡ octets_of e xs ++ octets_of e ys
 octets_of-append e [] ys = refl
@@ -147,23 +147,23 @@ shorter : (piece octets after : List ℕ) → octets ≡ piece ++ after → leng
 shorter piece octets after e = omega (arith, length-append piece after, ap length e)
 
 -- the first character in UTF-8, in UTF-16, and none
-pub Leads-utf8 : {source : Source} {text after : Bor (List ℕ)} {c : ℕ} → source ≡ Utf8 text → IsWhole source
-    → text.now ≡ spelling utf8 c ++ after.now → chars text.now ≡ c ∷ chars after.now → Leads source c (Utf8 after)
-Leads-utf8 {source} {text} {after} {c} e w o t = subst (λ s. IsWhole s → Leads s c (Utf8 after)) (sym e)
+pub Leads-utf8 : {remaining : Remaining} {text after : Bor (List ℕ)} {c : ℕ} → remaining ≡ Utf8 text → IsWhole remaining
+    → text.now ≡ spelling utf8 c ++ after.now → chars text.now ≡ c ∷ chars after.now → Leads remaining c (Utf8 after)
+Leads-utf8 {remaining} {text} {after} {c} e w o t = subst (λ s. IsWhole s → Leads s c (Utf8 after)) (sym e)
     (λ v. let b = WholeText-after {e = utf8} (record { scalars = v.scalars; spelled = v.spelled }) t o in
     record { text = t; whole = record { scalars = b.scalars; spelled = b.spelled }; encoding = refl; shorter = shorter (spelling utf8 c) text.now after.now o }) w
 
-pub Leads-utf16 : {source : Source} {order : ByteOrder} {octets after : Bor (List ℕ)} {c : ℕ} → source ≡ Utf16 order octets → IsWhole source
-    → BeginsWith (encoding_by order) octets.now c after.now → Leads source c (Utf16 order after)
-Leads-utf16 {source} {order} {octets} {after} {c} e w o = subst (λ s. IsWhole s → Leads s c (Utf16 order after)) (sym e)
+pub Leads-utf16 : {remaining : Remaining} {order : ByteOrder} {octets after : Bor (List ℕ)} {c : ℕ} → remaining ≡ Utf16 order octets → IsWhole remaining
+    → BeginsWith (encoding_by order) octets.now c after.now → Leads remaining c (Utf16 order after)
+Leads-utf16 {remaining} {order} {octets} {after} {c} e w o = subst (λ s. IsWhole s → Leads s c (Utf16 order after)) (sym e)
     (λ v. let t : utf16_characters order octets.now ≡ c ∷ utf16_characters order after.now =
     ap (utf16_characters order) o.spelled ∙ utf16_characters-spelling order c after.now o.scalar in
     let b = WholeText-after {e = encoding_by order} (record { scalars = v.scalars; spelled = v.spelled }) t o.spelled in
     record { text = t; whole = record { scalars = b.scalars; spelled = b.spelled }; encoding = refl; shorter = shorter (spelling (encoding_by order) c) octets.now after.now o.spelled }) w
 
-pub Leads-none : {source : Source} {order : ByteOrder} {octets : Bor (List ℕ)} → source ≡ Utf16 order octets → IsWhole source
-    → BeginsWithNone (encoding_by order) octets.now → characters_in source ≡ []
-Leads-none {source} {order} {octets} e w n = subst (λ s. IsWhole s → characters_in s ≡ []) (sym e)
+pub Leads-none : {remaining : Remaining} {order : ByteOrder} {octets : Bor (List ℕ)} → remaining ≡ Utf16 order octets → IsWhole remaining
+    → BeginsWithNone (encoding_by order) octets.now → characters_in remaining ≡ []
+Leads-none {remaining} {order} {octets} e w n = subst (λ s. IsWhole s → characters_in s ≡ []) (sym e)
     (λ v. WholeText-none {e = encoding_by order} (record { scalars = v.scalars; spelled = v.spelled }) n) w
 
 -- the units of bytes, one after another

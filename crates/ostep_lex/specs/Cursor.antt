@@ -11,17 +11,17 @@ use Rattle.ostep_lex.specs.Lexeme.{Lexeme, IsToken, Located}
 use Rattle.ostep_lex.specs.Quoted.{Piece, Quoted, Run}
 use Rattle.ostep_lex.specs.Octets.{OctetsPiece, Octets}
 use Rattle.ostep_lex.specs.Gap.{GapPiece, Gap, begins_gap}
-use Rattle.ostep_lex.specs.Source.{characters_in, encoding_in}
+use Rattle.ostep_lex.specs.Remaining.{characters_in, encoding_in}
 use Rattle.ostep_lex.specs.declared.stretch.Class.{Class}
 use Rattle.ostep_lex.specs.Stretch.{is_stretch}
 
 -- the characters from the cursor on
 unfoldable pub ahead : Cursor → List ℕ
-ahead cursor = characters_in cursor.source
+ahead cursor = characters_in cursor.remaining
 
 -- what the offsets of its input depend on
 unfoldable pub offsets_in : Cursor → Offsets
-offsets_in cursor = record { encoding = encoding_in cursor.source; end = cursor.end }
+offsets_in cursor = record { encoding = encoding_in cursor.remaining; end = cursor.end }
 
 -- the offset of the cursor
 abbrev pub offset_at : Cursor → ℕ

@@ -1,5 +1,6 @@
+pub mod Fault
 pub mod Encoding
-pub mod Source
+pub mod Remaining
 pub mod Character
 pub mod Gap
 pub mod Digits

@@ -80,6 +80,11 @@ pub data White : List ℕ → List ℕ → Type 0 where
   more : {c : ℕ} {rest after : List ℕ} → is_white c ≡ true → White rest after
       → White (c ∷ rest) after
 
+-- whether a whitespace character is first
+abbrev pub begins_white : List ℕ → Bool
+begins_white [] = false
+begins_white (c ∷ rest) = is_white c
+
 -- whitespace is not followed by the mark
 abbrev pub LacksMark : ℕ → List ℕ → Type 0
 LacksMark mark text = (lexeme : Lexeme) (after : List ℕ) → mark_token mark ≡ Some lexeme

@@ -5,10 +5,10 @@ use Rattle.ostep_lex.specs.declared.stretch.Class.{Class}
 use Rattle.ostep_lex.specs.declared.stretch.Class.TheVariants.{Run, White, Raw, Line, Starless}
 use Rattle.ostep_lex.specs.Character.{is_run, is_white, is_line_end}
 use Rattle.ostep_lex.specs.Quoted.{is_raw}
-use Rattle.ostep_lex.specs.declared.source.Source.{Source}
-use Rattle.ostep_lex.specs.declared.source.ByteOrder.{ByteOrder}
+use Rattle.ostep_lex.specs.declared.remaining.Remaining.{Remaining}
+use Rattle.ostep_lex.specs.declared.remaining.ByteOrder.{ByteOrder}
 use Rattle.ostep_lex.specs.Encoding.{octets_of}
-use Rattle.ostep_lex.specs.Source.{characters_in, encoding_in, encoding_by, octets_in, IsWhole}
+use Rattle.ostep_lex.specs.Remaining.{characters_in, encoding_in, encoding_by, octets_in, IsWhole}
 
 -- whether a character is of the class
 abbrev pub belongs : Class → ℕ → Bool
@@ -36,22 +36,22 @@ pub record BeginsWithUnits (kind : Class) (order : ByteOrder) (octets rest : Lis
   pub split : octets ≡ octets_of (encoding_by order) front ++ rest
 
 -- a stretch is first, followed by complete characters of the same encoding
-pub record LeadsStretch (kind : Class) (source : Source) (front : List ℕ)
-    (after : Source) : Type 0 where
+pub record LeadsStretch (kind : Class) (remaining : Remaining) (front : List ℕ)
+    (after : Remaining) : Type 0 where
   pub stretch : is_stretch 0xD800 kind front ≡ true
-  pub text : characters_in source ≡ front ++ characters_in after
+  pub text : characters_in remaining ≡ front ++ characters_in after
   pub whole : IsWhole after
-  pub encoding : encoding_in after ≡ encoding_in source
-  pub shorter : length (octets_in after) ≤ length (octets_in source)
+  pub encoding : encoding_in after ≡ encoding_in remaining
+  pub shorter : length (octets_in after) ≤ length (octets_in remaining)
 
 -- some stretch is first
-pub record PassesLead (kind : Class) (source after : Source) : Type 0 where
+pub record PassesLead (kind : Class) (remaining after : Remaining) : Type 0 where
   pub front : List ℕ
-  pub leads : LeadsStretch kind source front after
+  pub leads : LeadsStretch kind remaining front after
 
 -- some stretch is first, and its characters are appended
 pub record AppendsStretch (kind : Class) (units more : List ℕ)
-    (source after : Source) : Type 0 where
+    (remaining after : Remaining) : Type 0 where
   pub front : List ℕ
-  pub leads : LeadsStretch kind source front after
+  pub leads : LeadsStretch kind remaining front after
   pub appended : more ≡ units ++ front

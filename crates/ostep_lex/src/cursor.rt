@@ -1,10 +1,10 @@
 //! A position in an input.
 ghost use Rattle.std.specs.Prelude.{◌≡◌, false, [], ◌∷◌, ◌≤◌, length};
 ghost use Rattle.std.specs.Prelude.{MatchOption, IfSome, IfOk, IfErr};
-ghost use Rattle.ostep_lex.specs.Source.{IsWhole, octets_in};
+ghost use Rattle.ostep_lex.specs.Remaining.{IsWhole, octets_in};
 
 use crate::fault::LexFault;
-use crate::source::{ByteOrder, Source, after_characters};
+use crate::remaining::{ByteOrder, Remaining, after_characters};
 use crate::stretch::Class;
 use simdutf8::compat::from_utf8;
 use std::alloc::AllocError;
@@ -12,10 +12,10 @@ use std::alloc::AllocError;
 /// A position in an input, with the characters after it. Passed by value.
 #[derive(Clone, Copy)]
 pub struct Cursor<'a> {
-    source: Source<'a>,
+    remaining: Remaining<'a>,
     end: usize,
-    ghost whole: { IsWhole source },
-    ghost within: { length (octets_in source) ≤ end },
+    ghost whole: { IsWhole remaining },
+    ghost within: { length (octets_in remaining) ≤ end },
 }
 
 impl<'a> Cursor<'a> {
@@ -23,19 +23,19 @@ impl<'a> Cursor<'a> {
     ghost use Rattle.ostep_lex.specs.Cursor.{PassesStretch, SkipsStretch, StretchAppends};
     ghost use Rattle.ostep_lex.specs.Cursor.{Holds, IsBadUtf8, IsBadUtf16};
     ghost use Rattle.ostep_lex.specs.Encoding.{utf8, StopsAfter};
-    ghost use Rattle.ostep_lex.specs.Source.{encoding_by};
+    ghost use Rattle.ostep_lex.specs.Remaining.{encoding_by};
 
     /// Returns the offset in the input, byte order mark included.
     #[tactic(auto, unfolding(crate::specs::Cursor::ahead, crate::specs::Cursor::offsets_in))]
     pub fn offset(self) -> usize
         ensures { result ≡ offset_at self.entry }
     {
-        self.end - self.source.len()
+        self.end - self.remaining.len()
     }
 
     // Returns whether the input is UTF-8.
     pub(crate) fn is_utf8(self) -> bool {
-        matches!(self.source, Source::Utf8(_))
+        matches!(self.remaining, Remaining::Utf8(_))
     }
 
     // Returns the first character at the cursor, and the cursor after it.
@@ -45,11 +45,11 @@ impl<'a> Cursor<'a> {
         ensures { MatchOption result (ahead self.entry ≡ []) (λ found.
             (ahead self.entry ≡ found.0 ∷ ahead found.1) × SameInput self.entry found.1) }
     {
-        let (first, source) = self.source.first()?;
+        let (first, remaining) = self.remaining.first()?;
         Some((
             first,
             Cursor {
-                source,
+                remaining,
                 end: self.end,
             },
         ))
@@ -62,7 +62,7 @@ impl<'a> Cursor<'a> {
         ensures { SkipsStretch class self.entry result }
     {
         Cursor {
-            source: self.source.after_stretch(class),
+            remaining: self.remaining.after_stretch(class),
             end: self.end,
         }
     }
@@ -74,11 +74,11 @@ impl<'a> Cursor<'a> {
     pub(crate) fn plain_stretch(self, class: Class) -> Option<(&'a [u8], Cursor<'a>)>
         ensures { IfSome result (λ found. PassesStretch class self.entry found.0.now found.1) }
     {
-        let (octets, source) = self.source.plain_stretch(class)?;
+        let (octets, remaining) = self.remaining.plain_stretch(class)?;
         Some((
             octets,
             Cursor {
-                source,
+                remaining,
                 end: self.end,
             },
         ))
@@ -94,9 +94,9 @@ impl<'a> Cursor<'a> {
     ) -> Result<Cursor<'a>, AllocError>
         ensures { IfOk result (StretchAppends class units.old.items units.new.items self.entry) }
     {
-        let source = self.source.push_stretch(class, units)?;
+        let remaining = self.remaining.push_stretch(class, units)?;
         Ok(Cursor {
-            source,
+            remaining,
             end: self.end,
         })
     }
@@ -122,7 +122,7 @@ impl<'a> Cursor<'a> {
     {
         match from_utf8(octets) {
             Ok(text) => Ok(Cursor {
-                source: Source::Utf8(text),
+                remaining: Remaining::Utf8(text),
                 end,
             }),
             Err(error) => Err(LexFault::BadUtf8 {
@@ -149,7 +149,7 @@ impl<'a> Cursor<'a> {
             });
         }
         Ok(Cursor {
-            source: Source::Utf16(order, octets),
+            remaining: Remaining::Utf16(order, octets),
             end,
         })
     }

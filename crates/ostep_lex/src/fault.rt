@@ -1,11 +1,15 @@
 //! Why a text has no tokens.
-ghost use Rattle.std.specs.Prelude.{◌≡◌};
+ghost use Rattle.std.specs.Prelude.{◌≡◌, Some};
+ghost use Rattle.ostep_lex.specs.Fault.{code_of, report_of, text_of_fault};
 ghost use Rattle.ostep_lex.specs.declared.fault.LexFault.TheVariants.{OutOfMemory};
 
+use plist_value::{Place, Refusal, Report};
 use std::alloc::{AllocError, AllocFailed};
+use std::fmt;
+use thiserror::Error;
 
 /// Why a text has no tokens. Offsets are those in the input, byte order mark included.
-#[derive(Clone, Copy, Debug, PartialEq, Eq)]
+#[derive(Clone, Copy, Debug, PartialEq, Eq, Error)]
 pub enum LexFault {
     /// No UTF-8 character begins at this byte, after complete characters. Comes before all other
     /// faults of a text that has no UTF-16 byte order mark.
@@ -31,6 +35,51 @@ pub enum LexFault {
     BadUtf16 { octet: usize },
     /// Out of memory. May come before any other fault.
     OutOfMemory,
+}
+
+impl LexFault {
+    /// Returns the number of the refusal: 20, 21, 23 to 29, 32 or 60.
+    pub fn code(&self) -> u8
+        ensures { result ≡ code_of self.now }
+    {
+        self.report().0.number()
+    }
+
+    // Returns what is printed.
+    fn report(&self) -> Report
+        ensures { result ≡ report_of self.now }
+    {
+        match *self {
+            LexFault::BadUtf8 { octet } => Report(Refusal::BadUtf8, Place::Octet(octet)),
+            LexFault::XmlForm { octet } => Report(Refusal::XmlForm, Place::Octet(octet)),
+            LexFault::UnexpectedCharacter { octet } => {
+                Report(Refusal::UnexpectedCharacter, Place::Octet(octet))
+            }
+            LexFault::UnclosedString { octet } => {
+                Report(Refusal::UnclosedString, Place::Octet(octet))
+            }
+            LexFault::UnclosedComment { octet } => {
+                Report(Refusal::UnclosedComment, Place::Octet(octet))
+            }
+            LexFault::BadEscape { octet } => Report(Refusal::BadEscape, Place::Octet(octet)),
+            LexFault::OctalRange { octet } => Report(Refusal::OctalRange, Place::Octet(octet)),
+            LexFault::OddData { octet } => Report(Refusal::OddData, Place::Octet(octet)),
+            LexFault::BadData { octet } => Report(Refusal::BadData, Place::Octet(octet)),
+            LexFault::BadUtf16 { octet } => Report(Refusal::BadUtf16, Place::Octet(octet)),
+            LexFault::OutOfMemory => Report(Refusal::OutOfMemory, Place::Nowhere),
+        }
+    }
+}
+
+// Prints the number, the name and the position of the refusal, such as `24 UnclosedString at octet
+// 2`.
+impl fmt::Display for LexFault {
+    ghost output = { λ fault. Some (text_of_fault fault) };
+
+    fn fmt<W: fmt::Write>(&self, f: &mut fmt::Formatter<W>) -> fmt::Result {
+        let report = self.report();
+        write!(f, "{report}")
+    }
 }
 
 impl From<AllocError> for LexFault {

@@ -16,7 +16,7 @@ mod octets;
 mod opening;
 pub mod plain;
 mod quoted;
-mod source;
+mod remaining;
 mod stretch;
 pub mod token;
 

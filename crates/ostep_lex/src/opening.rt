@@ -1,14 +1,14 @@
 //! Opens an input: determines its encoding, and refuses XML property lists.
-ghost use Rattle.std.specs.Prelude.{◌≡◌, [], nat_eq, IfOk, IfErr};
+ghost use Rattle.std.specs.Prelude.{◌≡◌, ℕ, [], false, nat_eq, IfOk, IfErr};
 ghost use Rattle.std.specs.List.{starts_with};
 ghost use Rattle.ostep_lex.specs.Lexing.{HasNoTokens};
-ghost use Rattle.ostep_lex.specs.Stands.{StandsInTokens, begins_xml, White};
+ghost use Rattle.ostep_lex.specs.Stands.{HasXml, StandsInTokens, White, begins_white, begins_xml};
 ghost use Rattle.ostep_lex.specs.Cursor.{ahead, SameInput, Opens, IsAfter};
 
 use crate::character::is_white;
 use crate::cursor::Cursor;
 use crate::fault::LexFault;
-use crate::source::ByteOrder;
+use crate::remaining::ByteOrder;
 
 const BIG_MARK: [u8; 2] = [0xfe, 0xff];
 
@@ -37,6 +37,7 @@ fn text_of(octets: &[u8]) -> Result<Cursor<'_>, LexFault>
 // Returns the cursor after all whitespace.
 fn after_white(cursor: Cursor<'_>) -> Cursor<'_>
     ensures white { White (ahead cursor.entry) (ahead result) }
+    ensures all { begins_white (ahead result) ≡ false }
     ensures input { SameInput cursor.entry result }
 {
     let mut rest = cursor;
@@ -81,6 +82,7 @@ fn begins_xml(cursor: Cursor<'_>) -> bool
 /// after whitespace, with `<?xml`, `<!DOCTYPE` or `<plist`.
 pub fn open(octets: &[u8]) -> Result<Cursor<'_>, LexFault>
     ensures ok { IfOk result (IsAfter octets.now []) }
+    ensures other { IfOk result (λ _. (at : ℕ) → ¬ HasXml octets.now at) }
     ensures stands { IfErr result (StandsInTokens octets.now) }
     // There are no tokens. This is true of every refusal, since none is out of memory.
     ensures refused { IfErr result (λ fault. HasNoTokens octets.now) }

@@ -4,10 +4,10 @@ ghost use Rattle.std.specs.Prelude.{◌≡◌, ◌++◌, ◌&&◌, nat_lt, true,
 ghost use Rattle.std.specs.Prelude.{OnOk, IsUtf8};
 ghost use Rattle.ostep_lex.specs.Stretch.{belongs, is_stretch, BeginsWithStretch};
 ghost use Rattle.ostep_lex.specs.Stretch.{BeginsWithUnits};
-ghost use Rattle.ostep_lex.specs.Source.{units_in};
+ghost use Rattle.ostep_lex.specs.Remaining.{units_in};
 
 use crate::character::{is_line_end, is_run, is_white};
-use crate::source::{ByteOrder, front_unit};
+use crate::remaining::{ByteOrder, front_unit};
 use std::alloc::AllocError;
 
 /// A class of characters.

@@ -111,6 +111,54 @@ fn a_string_by_its_units(rt: HostRuntime) -> Result<(), Fail> {
     Ok(())
 }
 
+// Each fault, its number and its printed form.
+const FAULTS: [(LexFault, u8, &str); 11] = [
+    (LexFault::BadUtf8 { octet: 0 }, 20, "20 BadUtf8 at octet 0"),
+    (LexFault::XmlForm { octet: 1 }, 21, "21 XmlForm at octet 1"),
+    (
+        LexFault::UnexpectedCharacter { octet: 2 },
+        23,
+        "23 UnexpectedCharacter at octet 2",
+    ),
+    (
+        LexFault::UnclosedString { octet: 3 },
+        24,
+        "24 UnclosedString at octet 3",
+    ),
+    (
+        LexFault::UnclosedComment { octet: 4 },
+        25,
+        "25 UnclosedComment at octet 4",
+    ),
+    (
+        LexFault::BadEscape { octet: 5 },
+        26,
+        "26 BadEscape at octet 5",
+    ),
+    (
+        LexFault::OctalRange { octet: 6 },
+        27,
+        "27 OctalRange at octet 6",
+    ),
+    (LexFault::OddData { octet: 7 }, 28, "28 OddData at octet 7"),
+    (LexFault::BadData { octet: 8 }, 29, "29 BadData at octet 8"),
+    (
+        LexFault::BadUtf16 { octet: 9 },
+        32,
+        "32 BadUtf16 at octet 9",
+    ),
+    (LexFault::OutOfMemory, 60, "60 OutOfMemory"),
+];
+
+#[test]
+fn a_fault_has_a_number_and_a_printed_form(rt: HostRuntime) -> Result<(), Fail> {
+    for (fault, code, text) in FAULTS {
+        let printed = format!(in rt.alloc(); "{fault}")?;
+        assert_eq!(rt; (fault.code(), printed.as_str()), (code, text));
+    }
+    Ok(())
+}
+
 // Also with each allocation refused in turn.
 #[test]
 fn a_refused_growth_changes_no_answer(rt: HostRuntime) -> Result<(), Fail> {

@@ -8,7 +8,6 @@ use crate::row::{Question, Row};
 use crate::several::answer_several;
 use crate::values::answer_value;
 use ostep_lex::{Token, TokenKind, open, tokens};
-use ostep_text::TextFault;
 use plist_devices::ListSink;
 use plist_explain::explanation;
 use plist_forms::{judge_any, print, read_any};
@@ -121,10 +120,7 @@ fn put_references(line: &mut String, references: Refs) -> Result<(), AllocError>
 fn answer_tokens(alloc: Global, name: &str, octets: &[u8]) -> Result<String, AllocError> {
     let found = match tokens(alloc, octets) {
         Ok(found) => found,
-        Err(fault) => {
-            let fault = TextFault::from(fault);
-            return format!(in alloc; "{name}: refused {fault} ({})", fault.code());
-        }
+        Err(fault) => return format!(in alloc; "{name}: refused {fault} ({})", fault.code()),
     };
     let start = open(octets).map_or(0, |cursor| cursor.offset());
     let mut line = format!(in alloc; "{name}: from {start}")?;

@@ -3,7 +3,7 @@ use Rattle.ostep_lex.specs.Lexing.{HasNoTokens}
 use Rattle.ostep_lex.specs.Stands.{HasXml}
 use Rattle.ostep_lex.proofs.Exits.{passed_on}
 use Rattle.ostep_lex.proofs.LawProofs.{faulty_has_none, HasXml-none}
-use Rattle.ostep_lex.proofs.LexerSteps.{opens_after, opens_xml}
+use Rattle.ostep_lex.proofs.LexerSteps.{opens_after, opens_other, opens_xml}
 use Rattle.ostep_lex.proofs.opening.open.Goals as goal
 use Rattle.ostep_lex.proofs.opening.open.Goals.{After-offset}
 
@@ -24,3 +24,8 @@ returns-then-begins_xml-clause-refused c = HasXml-none (xml (goal.at.returns-the
 
 pub returns-clause-ok : goal.returns-clause-ok
 returns-clause-ok c = opens_after c.in_ok-cursor.ensures.ok
+
+pub returns-clause-other : goal.returns-clause-other
+returns-clause-other c =
+    opens_other _ _ c.in_ok-cursor.ensures.ok c.after_white-text.ensures.white c.after_white-text.ensures.all
+    (sym c.if-begins_xml.ensures)

@@ -1,5 +1,5 @@
 use Rattle.std.proofs.Common.{◌≡◌, ◌++◌, ◌∷◌, [], length, ap, sym, arith, ◌∙◌, append_assoc}
-use Rattle.ostep_lex.specs.Source.{units_in}
+use Rattle.ostep_lex.specs.Remaining.{units_in}
 use Rattle.ostep_lex.proofs.TextLemmas.{units_in-first, units_in-few}
 use Rattle.ostep_lex.proofs.stretch.push_units.Goals as goal
 

@@ -1,5 +1,5 @@
 use Rattle.std.proofs.Common.{◌≡◌, ◌+◌, ◌≤◌, ◌++◌, length, vec_len, vec_capacity}
-use Rattle.ostep_lex.specs.Source.{units_in}
+use Rattle.ostep_lex.specs.Remaining.{units_in}
 use Rattle.ostep_lex.proofs.stretch.push_units.Given as goal
 
 abbrev pub invariant-loop-unit : goal.invariant-loop-unit

@@ -1,5 +1,5 @@
 use Rattle.ostep_lex.proofs.TextLemmas.{FrontsOf-none, FrontsOf-more}
-use Rattle.ostep_lex.proofs.source.after_characters.Goals as goal
+use Rattle.ostep_lex.proofs.remaining.after_characters.Goals as goal
 
 pub loop-after-init : goal.loop-after-init
 loop-after-init c = FrontsOf-none _ _

@@ -3,10 +3,10 @@ use Rattle.std.specs.Prelude.{◌≡◌, ℕ, ◌+◌, ◌*◌, List, [], ◌∷
 use Rattle.std.specs.Prelude.{length, ◌≤◌}
 use Rattle.std.specs.Str.{all_scalars}
 use Rattle.std.specs.Char.Utf16.{utf16_chars}
-use Rattle.ostep_lex.specs.declared.source.ByteOrder.{ByteOrder}
-use Rattle.ostep_lex.specs.declared.source.ByteOrder.TheVariants.{Big, Little}
-use Rattle.ostep_lex.specs.declared.source.Source.{Source}
-use Rattle.ostep_lex.specs.declared.source.Source.TheVariants.{Utf8, Utf16}
+use Rattle.ostep_lex.specs.declared.remaining.ByteOrder.{ByteOrder}
+use Rattle.ostep_lex.specs.declared.remaining.ByteOrder.TheVariants.{Big, Little}
+use Rattle.ostep_lex.specs.declared.remaining.Remaining.{Remaining}
+use Rattle.ostep_lex.specs.declared.remaining.Remaining.TheVariants.{Utf8, Utf16}
 use Rattle.ostep_lex.specs.Encoding.{Encoding, utf8, utf16_big, utf16_little, big_endian}
 use Rattle.ostep_lex.specs.Encoding.{little_endian, octets_of}
 
@@ -37,26 +37,26 @@ pub record FrontsOf (e : Encoding) (octets rest : List ℕ) : Type 0 where
 unfoldable pub utf16_characters : ByteOrder → List ℕ → List ℕ
 utf16_characters order octets = map (λ c. unwrap_or c 0) (utf16_chars (units_in order octets))
 
-abbrev pub encoding_in : Source → Encoding
+abbrev pub encoding_in : Remaining → Encoding
 encoding_in (Utf8 octets) = utf8
 encoding_in (Utf16 order octets) = encoding_by order
 
-abbrev pub octets_in : Source → List ℕ
+abbrev pub octets_in : Remaining → List ℕ
 octets_in (Utf8 octets) = octets.now
 octets_in (Utf16 order octets) = octets.now
 
-abbrev pub characters_in : Source → List ℕ
+abbrev pub characters_in : Remaining → List ℕ
 characters_in (Utf8 octets) = chars octets.now
 characters_in (Utf16 order octets) = utf16_characters order octets.now
 
 -- the bytes are those of the characters
-pub record IsWhole (source : Source) : Type 0 where
-  pub scalars : all_scalars (characters_in source) ≡ true
-  pub spelled : octets_of (encoding_in source) (characters_in source) ≡ octets_in source
+pub record IsWhole (remaining : Remaining) : Type 0 where
+  pub scalars : all_scalars (characters_in remaining) ≡ true
+  pub spelled : octets_of (encoding_in remaining) (characters_in remaining) ≡ octets_in remaining
 
 -- a character is first, followed by complete characters of the same encoding
-pub record Leads (source : Source) (c : ℕ) (after : Source) : Type 0 where
-  pub text : characters_in source ≡ c ∷ characters_in after
+pub record Leads (remaining : Remaining) (c : ℕ) (after : Remaining) : Type 0 where
+  pub text : characters_in remaining ≡ c ∷ characters_in after
   pub whole : IsWhole after
-  pub encoding : encoding_in after ≡ encoding_in source
-  pub shorter : length (octets_in after) ≤ length (octets_in source)
+  pub encoding : encoding_in after ≡ encoding_in remaining
+  pub shorter : length (octets_in after) ≤ length (octets_in remaining)

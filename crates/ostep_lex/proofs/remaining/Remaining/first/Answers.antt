@@ -1,5 +1,5 @@
 use Rattle.ostep_lex.proofs.TextLemmas.{Leads-utf8, Leads-utf16, Leads-none}
-use Rattle.ostep_lex.proofs.source.Source.first.Goals as goal
+use Rattle.ostep_lex.proofs.remaining.Remaining.first.Goals as goal
 
 pub returns-in_err-first-in-Utf16 : goal.returns-in_err-first-in-Utf16
 returns-in_err-first-in-Utf16 c =

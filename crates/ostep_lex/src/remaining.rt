@@ -4,8 +4,8 @@ ghost use Rattle.std.specs.Prelude.{MatchOption, IfSome, IfOk};
 ghost use Rattle.std.specs.Char.{IsScalar};
 ghost use Rattle.ostep_lex.specs.Encoding.{BeginsWith, BeginsWithNone};
 ghost use Rattle.ostep_lex.specs.Encoding.{spelling, utf8};
-ghost use Rattle.ostep_lex.specs.Source.{unit_octets, encoding_by, FrontsOf};
-ghost use Rattle.ostep_lex.specs.Source.{characters_in, encoding_in, octets_in, IsWhole, Leads};
+ghost use Rattle.ostep_lex.specs.Remaining.{unit_octets, encoding_by, FrontsOf};
+ghost use Rattle.ostep_lex.specs.Remaining.{characters_in, encoding_in, octets_in, IsWhole, Leads};
 ghost use Rattle.ostep_lex.specs.Stretch.{LeadsStretch, PassesLead, AppendsStretch};
 
 use crate::stretch::{Class, after_units, push_octets, push_units, stretch};
@@ -20,7 +20,7 @@ pub enum ByteOrder {
 
 /// The remaining bytes.
 #[derive(Clone, Copy)]
-pub enum Source<'a> {
+pub enum Remaining<'a> {
     Utf8(&'a str),
     Utf16(ByteOrder, &'a [u8]),
 }
@@ -86,82 +86,87 @@ fn front_of_str(text: &str) -> Option<(char, &str)>
     Some((first, characters.as_str()))
 }
 
-impl<'a> Source<'a> {
+impl<'a> Remaining<'a> {
     /// Returns the number of remaining bytes.
     pub fn len(self) -> usize
         ensures { result ≡ length (octets_in self.entry) }
     {
         match self {
-            Source::Utf8(text) => text.len(),
-            Source::Utf16(_, octets) => octets.len(),
+            Remaining::Utf8(text) => text.len(),
+            Remaining::Utf16(_, octets) => octets.len(),
         }
     }
 
-    /// Returns the first character, and the source after it.
+    /// Returns the first character, and the remaining bytes after it.
     #[inline(always)]
-    pub fn first(self) -> Option<(char, Source<'a>)>
+    pub fn first(self) -> Option<(char, Remaining<'a>)>
         requires { IsWhole self }
         ensures { MatchOption result (characters_in self.entry ≡ [])
             (λ found. Leads self.entry found.0 found.1) }
     {
         match self {
-            Source::Utf8(text) => {
+            Remaining::Utf8(text) => {
                 let (first, after) = front_of_str(text)?;
-                Some((first, Source::Utf8(after)))
+                Some((first, Remaining::Utf8(after)))
             }
-            Source::Utf16(order, octets) => {
+            Remaining::Utf16(order, octets) => {
                 let (first, after) = front_character(order, octets)?;
-                Some((first, Source::Utf16(order, after)))
+                Some((first, Remaining::Utf16(order, after)))
             }
         }
     }
 
-    /// Returns the source after the longest stretch of the class.
+    /// Returns the remaining bytes after the longest stretch of the class.
     #[inline(always)]
-    pub fn after_stretch(self, class: Class) -> Source<'a>
+    pub fn after_stretch(self, class: Class) -> Remaining<'a>
         requires { IsWhole self }
         ensures { PassesLead class self.entry result }
     {
         match self {
-            Source::Utf8(text) => Source::Utf8(stretch(text, class).1),
-            Source::Utf16(order, octets) => {
-                Source::Utf16(order, after_units(class, order, octets))
+            Remaining::Utf8(text) => Remaining::Utf8(stretch(text, class).1),
+            Remaining::Utf16(order, octets) => {
+                Remaining::Utf16(order, after_units(class, order, octets))
             }
         }
     }
 
     /// Returns the bytes of the longest stretch of the class, one for each character, and the
-    /// source after it. Returns `None` for UTF-16.
+    /// remaining bytes after it. Returns `None` for UTF-16.
     #[inline(always)]
-    pub fn plain_stretch(self, class: Class) -> Option<(&'a [u8], Source<'a>)>
+    pub fn plain_stretch(self, class: Class) -> Option<(&'a [u8], Remaining<'a>)>
         requires { IsWhole self }
         ensures { IfSome result (λ found. LeadsStretch class self.entry found.0.now found.1) }
     {
         match self {
-            Source::Utf8(text) => {
+            Remaining::Utf8(text) => {
                 let (front, after) = stretch(text, class);
-                Some((front, Source::Utf8(after)))
+                Some((front, Remaining::Utf8(after)))
             }
-            Source::Utf16(..) => None,
+            Remaining::Utf16(..) => None,
         }
     }
 
-    /// Appends the characters of the longest stretch of the class and returns the source after it.
+    /// Appends the characters of the longest stretch of the class, and returns the remaining bytes
+    /// after it.
     #[inline(always)]
-    pub fn push_stretch(self, class: Class, units: &mut Vec<u16>) -> Result<Source<'a>, AllocError>
+    pub fn push_stretch(
+        self,
+        class: Class,
+        units: &mut Vec<u16>,
+    ) -> Result<Remaining<'a>, AllocError>
         requires { IsWhole self }
         ensures { IfOk result (AppendsStretch class units.old.items units.new.items self.entry) }
     {
         match self {
-            Source::Utf8(text) => {
+            Remaining::Utf8(text) => {
                 let (front, after) = stretch(text, class);
                 push_octets(units, front)?;
-                Ok(Source::Utf8(after))
+                Ok(Remaining::Utf8(after))
             }
-            Source::Utf16(order, octets) => {
+            Remaining::Utf16(order, octets) => {
                 let after = after_units(class, order, octets);
                 push_units(units, order, &octets[..octets.len() - after.len()])?;
-                Ok(Source::Utf16(order, after))
+                Ok(Remaining::Utf16(order, after))
             }
         }
     }

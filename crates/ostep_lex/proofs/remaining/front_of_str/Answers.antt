@@ -1,7 +1,7 @@
 use Rattle.std.proofs.Common.{◌≡◌, ◌++◌}
 use Rattle.std.proofs.lemmas.Str.{chars_past_char}
 use Rattle.std.specs.Char.{encode_utf8}
-use Rattle.ostep_lex.proofs.source.front_of_str.Goals as goal
+use Rattle.ostep_lex.proofs.remaining.front_of_str.Goals as goal
 
 pub returns : goal.returns
 returns c =

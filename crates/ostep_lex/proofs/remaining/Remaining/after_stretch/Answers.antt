@@ -1,5 +1,5 @@
 use Rattle.ostep_lex.proofs.StretchLemmas.{leads_stretch, leads_units}
-use Rattle.ostep_lex.proofs.source.Source.after_stretch.Goals as goal
+use Rattle.ostep_lex.proofs.remaining.Remaining.after_stretch.Goals as goal
 
 pub returns-in-Utf8 : goal.returns-in-Utf8
 returns-in-Utf8 c = record {

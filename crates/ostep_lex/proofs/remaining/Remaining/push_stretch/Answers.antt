@@ -1,6 +1,6 @@
 use Rattle.std.proofs.Common.{◌++◌, ap, ◌∙◌}
 use Rattle.ostep_lex.proofs.StretchLemmas.{leads_stretch, leads_units, units_of_front}
-use Rattle.ostep_lex.proofs.source.Source.push_stretch.Goals as goal
+use Rattle.ostep_lex.proofs.remaining.Remaining.push_stretch.Goals as goal
 
 pub returns-in_ok-push_octets-in-Utf8 : goal.returns-in_ok-push_octets-in-Utf8
 returns-in_ok-push_octets-in-Utf8 c = record {
