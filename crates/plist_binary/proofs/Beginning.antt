@@ -15,7 +15,7 @@ use Rattle.plist_binary.specs.Begins.{Comes, Begins, IsBegun, AreNext}
 use Rattle.plist_binary.specs.Budgets.{limits}
 use Rattle.plist_binary.specs.declared.progress.Progress.{Progress}
 use Rattle.plist_binary.specs.declared.walker.Node.{Node}
-use Rattle.plist_binary.specs.Paths.{EndsPath, Refers, Leads}
+use Rattle.plist_binary.specs.Paths.{EndsPath, Refers, Leads, NoneTwice}
 use Rattle.plist_binary.specs.Progress.{AreDue, IsDue, IsTaken, above, inside}
 use Rattle.plist_binary.specs.Readings.{ReadsItems}
 use Rattle.plist_binary.proofs.ItemSteps.{around, join, Spends-then, Spends-none, SpellItems-join, AreItems-join, nodes-join, payload-join, depth-join}
@@ -35,6 +35,14 @@ Begins-leads f (j ∷ before) i nodes payload begins = (
   Comes-refers i begins.comes (0, (omega arith), refl),
   Begins-leads f before j begins.nodes_above begins.payload_above begins.above,
 )
+
+Begins-none_twice : (f before : List ℕ) (i nodes payload : ℕ) → Begins f before i nodes payload → NoneTwice before
+Begins-none_twice f [] i nodes payload begins = tt
+Begins-none_twice f (j ∷ before) i nodes payload begins =
+    (begins.new, Begins-none_twice f before j begins.nodes_above begins.payload_above begins.above)
+
+pub IsDue-none_twice : {f : List ℕ} {node : Node} {progress : Progress} → IsDue f node progress → NoneTwice (above node)
+IsDue-none_twice {f} {node} due = Begins-none_twice f (above node) node.object due.begun.nodes due.begun.payload due.begun.begins
 
 pub IsDue-leads : {f : List ℕ} {node : Node} {progress : Progress} → IsDue f node progress → Leads f (above node) node.object
 IsDue-leads {f} {node} due = Begins-leads f (above node) node.object due.begun.nodes due.begun.payload due.begun.begins

@@ -27,7 +27,7 @@ use Rattle.plist_binary.specs.Faults.{IsFaulty, StandsWithin}
 use Rattle.plist_binary.specs.Paths.{Refers, Leads}
 use Rattle.plist_binary.specs.Progress.{IsDue, RefusesNode, above}
 use Rattle.plist_binary.specs.Readings.{Refuses}
-use Rattle.plist_binary.proofs.Beginning.{IsDue-leads}
+use Rattle.plist_binary.proofs.Beginning.{IsDue-leads, IsDue-none_twice}
 use Rattle.plist_binary.proofs.Inserting.{PairsSpelled-held}
 use Rattle.plist_binary.proofs.ItemSteps.{Spells-held}
 use Rattle.plist_binary.proofs.TableSteps.{sums, unsort}
@@ -143,10 +143,11 @@ Refuses-nodes {f} {node} laid due new none_left =
       none = λ _ v valid spells deep affords. omega (arith, some_node v, affords.nodes_there);
     }
 
-pub Refuses-depth : {f : List ℕ} {node : Node} {before : Progress} → IsLaid f → IsDue f node before → node.levels ≡ 0 → RefusesNode f node before (TooDeep node.object)
-Refuses-depth {node = node} laid due none_left = record {
+pub Refuses-depth : {f : List ℕ} {node : Node} {before : Progress} → IsLaid f → IsDue f node before → ¬ Contains (above node) node.object → node.levels ≡ 0 → RefusesNode f node before (TooDeep node.object)
+Refuses-depth {node = node} laid due new none_left = record {
   stands = record {
     ends = record { laid = laid; before = above node; leads = IsDue-leads due };
+    acyclic = (new, IsDue-none_twice due);
     long = omega (arith, due.depth);
   };
   none = λ _ v valid spells deep affords. omega (arith, some_depth v);

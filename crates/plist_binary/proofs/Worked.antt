@@ -12,10 +12,10 @@ use Rattle.plist_object.specs.References.{references_of}
 use Rattle.plist_object.specs.Spelled.{SpellPairs, IsBinary}
 use Rattle.plist_object.proofs.Ascending.{Among-contains, Contains-among}
 use Rattle.plist_object.proofs.Uniqueness.{same_held}
-use Rattle.plist_binary.specs.declared.fault.BinaryFault.TheVariants.{TooShort, BadTrailer, NullObject, BadReference, KeyNotText, DuplicateKey, Cycle, TooManyNodes, TooMuchPayload}
+use Rattle.plist_binary.specs.declared.fault.BinaryFault.TheVariants.{TooShort, BadTrailer, NullObject, BadReference, KeyNotText, DuplicateKey, Cycle, TooDeep, TooManyNodes, TooMuchPayload}
 use Rattle.plist_binary.specs.Begins.{Begins}
 use Rattle.plist_binary.specs.Faults.{Stands, StandsWithin}
-use Rattle.plist_binary.specs.Paths.{Refers}
+use Rattle.plist_binary.specs.Paths.{Refers, Leads}
 use Rattle.plist_binary.proofs.Beginning.{Comes-refers}
 
 all_under : (bound : ℕ) (xs : List ℕ) → 0 < bound → list_all (λ x. nat_lt x bound) xs ≡ true → AllUnder bound xs
@@ -218,6 +218,16 @@ flagged-key = record {
   reads = record { listed = lit< tt; reads = refl };
   no_text = λ none. none;
 }
+
+-- nor is it too deep
+own-deep : Stands own (TooDeep 0) → ⊥
+unfolding own end_of
+own-deep stands = none stands.ends.before stands.ends.leads stands.long stands.acyclic.0 where
+  none : (before : List ℕ) → Leads own before 0 → length before ≡ 512 → ¬ Contains before 0 → ⊥
+  none [] leads long new = omega (arith, long)
+  none (j ∷ before) leads long new =
+      let only : j ≡ 0 = (let listed = leads.0.holds.listed in omega (arith, listed)) in
+      new (Contains-among 0 (j ∷ before) (inl (sym only)))
 
 -- a dictionary with a duplicate key
 twice : List ℕ

@@ -19,7 +19,7 @@ use Rattle.plist_binary.specs.declared.fault.BinaryFault.TheVariants.{NotAscii, 
 use Rattle.plist_binary.specs.declared.fault.BinaryFault.TheVariants.{KeyNotText, DuplicateKey}
 use Rattle.plist_binary.specs.declared.fault.BinaryFault.TheVariants.{Cycle, TooDeep, TooManyNodes}
 use Rattle.plist_binary.specs.declared.fault.BinaryFault.TheVariants.{TooMuchPayload, OutOfMemory}
-use Rattle.plist_binary.specs.Paths.{Refers, EndsPath}
+use Rattle.plist_binary.specs.Paths.{Refers, EndsPath, NoneTwice}
 use Rattle.plist_binary.specs.Begins.{payload_read, Begins}
 
 -- i ends a path, and cannot be decoded because of this fault
@@ -80,9 +80,10 @@ pub record ClosesCycle (f : List ℕ) (i : ℕ) : Type 0 where
   pub refers : Refers f i reference
   pub on_path : Contains (i ∷ ends.before) reference
 
--- i ends a path with one object more than the maximum depth
+-- i ends a path without a cycle, with one object more than the maximum depth
 pub record IsTooDeep (f : List ℕ) (i : ℕ) : Type 0 where
   pub ends : EndsPath f i
+  pub acyclic : NoneTwice (i ∷ ends.before)
   pub long : length ends.before ≡ MAX_DEPTH
 
 -- i closes no cycle, and before it come exactly `nodes` nodes and at most `most` payload

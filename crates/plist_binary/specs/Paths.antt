@@ -1,5 +1,5 @@
 -- Paths through a file, from its top.
-use Rattle.std.specs.Prelude.{◌≡◌, ℕ, List, [], ◌∷◌}
+use Rattle.std.specs.Prelude.{◌≡◌, ℕ, List, [], ◌∷◌, ⊤}
 use Rattle.std.specs.List.{Contains}
 use Rattle.plist_object.specs.Layout.{trailer_of, IsLaid}
 use Rattle.plist_object.specs.Objects.{Content, holds_table}
@@ -24,6 +24,11 @@ pub record EndsPath (f : List ℕ) (i : ℕ) : Type 0 where
   pub laid : IsLaid f
   pub before : List ℕ
   pub leads : Leads f before i
+
+-- none of these objects is twice among them
+abbrev pub NoneTwice : List ℕ → Type 0
+NoneTwice [] = ⊤
+NoneTwice (j ∷ before) = (¬ Contains before j) × NoneTwice before
 
 -- the containers of a `Path`
 abbrev pub containers_of : Path → List ℕ

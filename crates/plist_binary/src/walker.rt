@@ -1,4 +1,5 @@
-//! A walk over the objects of a file, and the nodes that it visits.
+//! The data of a walk over the objects of a file: the file, and the nodes that are visited. The
+//! walk itself is in walking.rt, and what it does at a node in visiting.rt.
 ghost use Rattle.plist_value.specs.Plist.{AreOctets};
 ghost use Rattle.plist_object.specs.Layout.{IsLaid};
 ghost use Rattle.plist_object.specs.Views.{octets_of};

@@ -9,7 +9,7 @@ returns-in_default-clause-refused c =
 
 pub returns-then-node-eq0-clause-refused : goal.returns-then-node-eq0-clause-refused
 returns-then-node-eq0-clause-refused c =
-    Refuses-depth c.args.self.now.laid c.requires c.if-node-eq0.true
+    Refuses-depth c.args.self.now.laid c.requires c.in_ok-refuse_cycle.ensures.new c.if-node-eq0.true
 
 pub returns-in-Err-clause-refused : goal.returns-in-Err-clause-refused
 returns-in-Err-clause-refused c =
