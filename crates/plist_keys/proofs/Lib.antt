@@ -5,4 +5,4 @@ pub mod SortedRuns
 pub mod Ascents
 pub mod KeysInTurn
 pub mod Widths
-pub mod Alike
+pub mod Counting

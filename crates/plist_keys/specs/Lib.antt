@@ -2,4 +2,5 @@ pub mod Ranks
 pub mod Order
 pub mod Ascending
 pub mod KeyOrder
+pub mod Overlap
 pub mod Prefixes

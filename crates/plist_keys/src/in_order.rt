@@ -1,5 +1,5 @@
 //! Whether the keys of dictionaries ascend in the order of the file.
-ghost use Rattle.std.specs.Prelude.{◌↔◌, IsTrue, IfSome, IfNone};
+ghost use Rattle.std.specs.Prelude.{◌≡◌, ◌↔◌, false, IfOk, IsTrue, IfSome, IfNone};
 ghost use Rattle.plist_value.specs.Plist.{text};
 ghost use Rattle.plist_value.specs.Texts.{units_of};
 ghost use Rattle.plist_object.specs.Objects.{holds_scalar};
@@ -8,6 +8,7 @@ ghost use Rattle.plist_object.specs.Views.{numbers_of, octets_of};
 ghost use Rattle.plist_keys.specs.Order.{NameTexts};
 ghost use Rattle.plist_keys.specs.Ascending.{AreAscending, AreInOrder, AscendInTurn};
 ghost use Rattle.plist_keys.specs.KeyOrder.{IsReady};
+ghost use Rattle.plist_keys.specs.Overlap.{KeysOverlap};
 ghost use Rattle.plist_keys.specs.Ranks.{AreRanks};
 
 use crate::keys::Keys;
@@ -19,8 +20,8 @@ use std::alloc::{AllocError, Global};
 
 impl<'a> KeyOrder<'a> {
     /// Prepares for [`ascend`](KeyOrder::ascend): ranks the keys of all dictionaries once the
-    /// strings of the keys prepared are longer in total than the file. Returns `false` as a hint
-    /// that objects overlap, so that comparing the keys could take long.
+    /// strings of the keys prepared are longer in total than the file. Returns `false` only if keys
+    /// overlap, so that comparing them could take long.
     ///
     /// # Errors
     ///
@@ -32,7 +33,8 @@ impl<'a> KeyOrder<'a> {
         keys: &Refs,
     ) -> Result<bool, AllocError>
         requires { IsReady (octets_of file.now) self.old }
-        ensures { IsReady (octets_of file.now) self.new }
+        ensures ready { IsReady (octets_of file.now) self.new }
+        ensures overlap { IfOk result (λ apart. apart ≡ false → KeysOverlap (octets_of file.now)) }
     {
         let Some(left) = self.left else {
             return Ok(true);

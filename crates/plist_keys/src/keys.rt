@@ -1,9 +1,14 @@
 //! The strings that are keys of a file's dictionaries.
-ghost use Rattle.std.specs.Prelude.{◌≡◌, ◌<◌, IfOk, OnOk, IfSome};
+ghost use Rattle.std.specs.Prelude.{◌≡◌, ◌+◌, ◌<◌, ℕ, List, Ok, Some, IfNone, IfOk, OnOk, IfSome};
+ghost use Rattle.std.specs.Prelude.{suc};
 ghost use Rattle.std.specs.Option.{is_none};
 ghost use Rattle.plist_value.specs.Texts.{units_of};
 ghost use Rattle.plist_object.specs.Layout.{trailer_of};
 ghost use Rattle.plist_object.specs.Views.{octets_of};
+ghost use Rattle.plist_object.specs.Objects.{holds_table};
+ghost use Rattle.plist_object.specs.Places.{what_holds};
+ghost use Rattle.plist_object.specs.Views.{numbers_of};
+ghost use Rattle.plist_keys.specs.Overlap.{AreCounted, IsKey};
 ghost use Rattle.plist_keys.specs.Ranks.{AreKeys, AreRanks, HoldsUnits};
 
 use crate::ranks::{Ranks, ranks_in_order};
@@ -35,7 +40,8 @@ impl<'a> Keys<'a> {
     // Collects the keys of all dictionaries. Stops early at the first dictionary that cannot be
     // read, at the first key that is no string, or if dictionaries or strings overlap.
     pub(crate) fn of_tables(alloc: Global, file: &BinFile<'a>) -> Result<Keys<'a>, AllocError>
-        ensures { IfOk result (λ keys. AreKeys (octets_of file.now) keys) }
+        ensures keys { IfOk result (AreKeys (octets_of file.now)) }
+        ensures counted { IfOk result (λ keys. (i : ℕ) × AreCounted (octets_of file.now) i keys) }
     {
         let mut keys = Keys::none(alloc, file)?;
         for i in 0..file.count() {
@@ -55,7 +61,8 @@ impl<'a> Keys<'a> {
 
     // Creates an empty collection.
     pub(crate) fn none(alloc: Global, file: &BinFile<'a>) -> Result<Keys<'a>, AllocError>
-        ensures { IfOk result (λ keys. AreKeys (octets_of file.now) keys) }
+        ensures keys { IfOk result (AreKeys (octets_of file.now)) }
+        ensures counted { IfOk result (AreCounted (octets_of file.now) 0) }
     {
         let mut seen = Vec::new(alloc);
         seen.resize(file.count() as usize, false)?;
@@ -87,7 +94,9 @@ impl<'a> Keys<'a> {
     fn add_table(&mut self, file: &BinFile<'a>, i: u64) -> Result<bool, AllocError>
         requires listed { i < (trailer_of (octets_of file.now)).count }
         requires keys { AreKeys (octets_of file.now) self.old }
-        ensures { OnOk result (AreKeys (octets_of file.now) self.new) }
+        requires counted { AreCounted (octets_of file.now) i self.old }
+        ensures keys { OnOk result (AreKeys (octets_of file.now) self.new) }
+        ensures counted { OnOk result (AreCounted (octets_of file.now) (suc i) self.new) }
     {
         if file.marker(i) / 16 != TABLE {
             return Ok(true);
@@ -98,9 +107,14 @@ impl<'a> Keys<'a> {
         }
     }
 
+    // Adds these keys. Returns `false` if one is no string, or if objects overlap.
     fn add_all(&mut self, file: &BinFile<'a>, keys: &Refs) -> Result<bool, AllocError>
         requires { AreKeys (octets_of file.now) self.old }
-        ensures { OnOk result (AreKeys (octets_of file.now) self.new) }
+        ensures keys { OnOk result (AreKeys (octets_of file.now) self.new) }
+        ensures counted { OnOk result ((i : ℕ) (values : List ℕ)
+            → what_holds (octets_of file.now) i ≡ Ok (holds_table (numbers_of keys.now) values)
+            → AreCounted (octets_of file.now) i self.old
+            → AreCounted (octets_of file.now) (suc i) self.new) }
     {
         let Some(named) = self.named.checked_sub(keys.len()) else {
             self.room = None;
@@ -119,7 +133,10 @@ impl<'a> Keys<'a> {
     // contains none or if objects overlap.
     fn add(&mut self, file: &BinFile<'a>, object: u64) -> Result<bool, AllocError>
         requires { AreKeys (octets_of file.now) self.old }
-        ensures { OnOk result (AreKeys (octets_of file.now) self.new) }
+        ensures keys { OnOk result (AreKeys (octets_of file.now) self.new) }
+        ensures counted { OnOk result ((i : ℕ) → IsKey (octets_of file.now) object
+            → AreCounted (octets_of file.now) i self.old
+            → AreCounted (octets_of file.now) i self.new) }
     {
         if object >= file.count() {
             return Ok(false);
@@ -152,7 +169,8 @@ impl<'a> Keys<'a> {
         file: &BinFile<'a>,
     ) -> Result<Ranks<'a>, AllocError>
         requires { AreKeys (octets_of file.now) self.old }
-        ensures { IfOk result (λ ranks. AreRanks (octets_of file.now) ranks) }
+        ensures ranks { IfOk result (λ ranks. AreRanks (octets_of file.now) ranks) }
+        ensures room { self.new.room ≡ self.old.room }
     {
         self.entries.sort_unstable();
         ranks_in_order(alloc, file, &self.entries)
@@ -160,6 +178,9 @@ impl<'a> Keys<'a> {
 }
 
 // Subtracts the bytes read; `None` if they are more than were left.
-fn less(room: Option<u64>, read: u64) -> Option<u64> {
+fn less(room: Option<u64>, read: u64) -> Option<u64>
+    ensures some { IfSome result (λ rest. room ≡ Some (rest + read)) }
+    ensures none { IfNone result (IfSome room (λ left. left < read)) }
+{
     room?.checked_sub(read)
 }

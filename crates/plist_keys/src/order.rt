@@ -38,16 +38,21 @@ const ROUNDS: u32 = 4;
 // One more than the greatest sort prefix.
 const PREFIXES: u128 = 0x1_0000_0000_0000_0000;
 
-// A key of a dictionary, by its position among the keys. Of two rows with different numbers, the
-// one with the lower number has the lower string. A row is small, so that it can be moved quickly.
+// A key of the dictionary that is sorted. Rows are moved and compared in place of strings: if the
+// numbers of two rows differ, the strings have the order of the numbers, and only if they are equal
+// are the strings compared.
 #[derive(Clone, Copy)]
 pub(crate) struct Row {
+    // The sort prefix of the string, or its rank.
     pub(crate) prefix: u64,
+    // The position of the first row of its run, the rows that were equal by all earlier prefixes.
     pub(crate) run: u32,
+    // The position of the key among the keys of the dictionary.
     pub(crate) index: u32,
 }
 
 impl Row {
+    // Returns a number by which rows are sorted: first by their run, then by their prefix.
     pub(crate) fn number(&self) -> u128
         ensures { result ≡ sort_key self.now }
     {

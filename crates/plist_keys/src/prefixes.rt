@@ -3,16 +3,13 @@ ghost use Rattle.std.specs.List.Sorted.{IsNonDecreasingBy, IsPermutation};
 ghost use Rattle.std.specs.Prelude.{◌≡◌, ◌↔◌, ◌<◌, ◌≤◌, ◌+◌, ◌-◌, ◌^◌, ℕ, IsTrue, List, All, map};
 ghost use Rattle.std.specs.Prelude.{take};
 ghost use Rattle.std.specs.Prelude.{drop, length, slice_index_or};
-ghost use Rattle.plist_value.specs.Texts.{units_of, wide_units};
+ghost use Rattle.plist_value.specs.Texts.{units_of};
 ghost use Rattle.plist_keys.specs.KeyOrder.{TellsOrder, sort_key, index_of, row_units};
 ghost use Rattle.plist_keys.specs.Prefixes.{behind, digit_of, digits_of, in_run, prefix_of};
 ghost use Rattle.plist_keys.specs.Prefixes.{IsNarrow, IsRunSorted};
 
 use crate::order::{Row, text_at};
 use plist_value::TextRef;
-
-// Long strings are compared in blocks of this many bytes.
-const BLOCK: usize = 64;
 
 // The number of bits that a sort prefix has for each unit.
 #[derive(Clone, Copy)]
@@ -78,7 +75,8 @@ fn shared(rows: &[Row], texts: &[TextRef]) -> usize
     let first = text_at(texts, first);
     let mut count = first.len();
     for row in others {
-        count = alike(&first, &text_at(texts, row), count);
+        let text = text_at(texts, row);
+        count = first.alike(&text, count.min(text.len()));
     }
     count
 }
@@ -138,74 +136,6 @@ fn fill(rows: &mut [Row], texts: &[TextRef], start: u32, front: usize, width: Wi
         row.run = start;
         row.prefix = sort_prefix(&text_at(texts, row), front, width);
     }
-}
-
-// Returns the number of leading units that both strings share, up to `most`.
-#[inline(always)]
-fn alike(first: &TextRef, text: &TextRef, most: usize) -> usize
-    ensures within { result ≤ most }
-    ensures same { take result (units_of text.now) ≡ take result (units_of first.now) }
-{
-    let most = most.min(first.len()).min(text.len());
-    match (first.octets(), text.octets()) {
-        (Some(octets), Some(others)) => alike_octets(octets, others, most),
-        _ => alike_wide(first, text, most),
-    }
-}
-
-// Like [`alike`], for strings that are not both stored as ASCII bytes.
-fn alike_wide(first: &TextRef, text: &TextRef, most: usize) -> usize
-    requires { (most ≤ length (units_of first.now)) × (most ≤ length (units_of text.now)) }
-    ensures within { result ≤ most }
-    ensures same { take result (units_of text.now) ≡ take result (units_of first.now) }
-{
-    match (first.wide_octets(), text.wide_octets()) {
-        (Some(octets), Some(others)) => alike_pairs(octets, others, most),
-        _ => first.alike(text, most),
-    }
-}
-
-// Returns the number of leading units of two bytes each that both share, up to `most`.
-fn alike_pairs(octets: &[u8], others: &[u8], most: usize) -> usize
-    requires { (most ≤ length (wide_units octets.now)) × (most ≤ length (wide_units others.now)) }
-    ensures within { result ≤ most }
-    ensures same { take result (wide_units others.now) ≡ take result (wide_units octets.now) }
-{
-    alike_octets(octets, others, 2 * most) / 2
-}
-
-// Returns the number of leading bytes that both share, up to `most`. Usually this is `most`.
-fn alike_octets(octets: &[u8], others: &[u8], most: usize) -> usize
-    requires { (most ≤ length octets.now) × (most ≤ length others.now) }
-    ensures within { result ≤ most }
-    ensures same { take result others.now ≡ take result octets.now }
-{
-    if octets[..most] == others[..most] {
-        return most;
-    }
-    for i in alike_blocks(octets, others, most)..most {
-        if octets[i] != others[i] {
-            return i;
-        }
-    }
-    most
-}
-
-// Returns the length of the leading blocks that both share, up to `most`.
-fn alike_blocks(octets: &[u8], others: &[u8], most: usize) -> usize
-    requires { (most ≤ length octets.now) × (most ≤ length others.now) }
-    ensures within { result ≤ most }
-    ensures same { take result others.now ≡ take result octets.now }
-{
-    let mut start = 0;
-    while most - start >= BLOCK {
-        let end = start + BLOCK;
-        if octets[start..end] != others[start..end] {
-            return start;
-        }
-        start = end;
-    }
-    start
 }
 
 // Returns the sort prefix of the units after the first `front`.

@@ -87,8 +87,9 @@ enum Put {
     Table,
 }
 
-// Returns whether the file of the object put encodes this text, or, if the put failed, that of the
-// string put before it still encodes `a`.
+// Puts the string `a`, and then another object. Returns whether the draft's file with that object
+// on top encodes the value of this text. If the second put ran out of memory, the file with the
+// string on top must still encode `a`.
 fn is_file_or_left(alloc: Global, put: Put, text: &[u8]) -> Result<bool, Fail> {
     let mut draft = Draft::new(alloc)?;
     let a = put_text(&mut draft, &[0x61])?;

@@ -2,7 +2,6 @@
 use crate::depth::{LISTS, nested};
 use crate::files::files;
 use ostep_lex::tokens;
-use ostep_text::TextFault;
 use plist_canon::check;
 use plist_forms::read_any;
 use std::alloc::Global;
@@ -60,7 +59,7 @@ const SMALL_TEXTS: [&[u8]; 41] = [
 fn is_answered(alloc: Global, octets: &[u8]) -> bool {
     let checked = code_of!(check(alloc, octets));
     let read = code_of!(read_any(alloc, octets));
-    let lexed = code_of!(tokens(alloc, octets).map_err(TextFault::from));
+    let lexed = code_of!(tokens(alloc, octets));
     let is_named = checked <= 3 && matches!(lexed, 0 | 20 | 21 | 23..=29 | 32);
     let is_short = (checked == 1) == (octets.len() < 42);
     let is_read = if octets.starts_with(b"bplist") {

@@ -1,6 +1,6 @@
 -- Units of two bytes each, big-endian.
-use Rattle.std.proofs.Common.{◌≡◌, ℕ, zero, suc, ◌+◌, ◌*◌, ◌/◌, ◌<◌, ◌≤◌, List, [], ◌∷◌, length, nat_eq, slice_index, take, refl, Bool, ◌&&◌, ⊎_elim, arith, Ordering, nat_cmp}
-use Rattle.std.specs.Cmp.Lexicographic.{pointwise, slice_cmp}
+use Rattle.std.proofs.Common.{◌≡◌, ℕ, zero, suc, ◌+◌, ◌*◌, ◌/◌, ◌<◌, ◌≤◌, List, [], ◌∷◌, length, slice_index, take, refl, ap, ⊎_elim, arith, Ordering, nat_cmp}
+use Rattle.std.specs.Cmp.Lexicographic.{slice_cmp}
 use Rattle.std.specs.Ordering.{ordering_then}
 use Rattle.std.proofs.lemmas.List.{get_or_past}
 use Rattle.std.proofs.lemmas.Bool.{cases_lt}
@@ -30,6 +30,15 @@ AreUnits-wide_units xs octets i =
     (λ (h : length (wide_units xs) ≤ i). let past = get_or_past (wide_units xs) i 0 h in omega arith)
     (cases_lt i (length (wide_units xs)))
 
+-- strings share their first units if they share the bytes of these
+pub take-wide_units : (i bytes : ℕ) (xs : List ℕ) → bytes ≡ 2 * i → take i (wide_units xs) ≡ wide_units (take bytes xs)
+take-wide_units zero zero xs twice = refl
+take-wide_units (suc i) (suc (suc bytes)) [] twice = refl
+take-wide_units (suc i) (suc (suc bytes)) (x ∷ []) twice = refl
+take-wide_units (suc i) (suc (suc bytes)) (high ∷ low ∷ xs) twice =
+    ap (λ (units : List ℕ). (256 * high + low) ∷ units) (take-wide_units i bytes xs (omega arith))
+take-wide_units _ _ _ twice = absurd (omega arith)
+
 -- the order of two units is that of their first bytes, and else that of their second
 pair_cmp : (a b c d : ℕ) (rest : Ordering) → b < 256 → d < 256 → ordering_then (nat_cmp (256 * a + b) (256 * c + d)) rest ≡ ordering_then (nat_cmp a c) (ordering_then (nat_cmp b d) rest)
 pair_cmp a b c d rest low other = grind (arith, nat_tests)
@@ -48,22 +57,3 @@ slice_cmp-pairs (suc (suc m)) (suc (suc n)) (a ∷ b ∷ xs) (c ∷ d ∷ ys) e 
     let rest = slice_cmp-pairs m n xs ys (omega arith) (omega arith) (λ i. h (suc (suc i))) (λ i. k (suc (suc i))) in
     rw (rest, pair_cmp a b c d (slice_cmp nat_cmp (wide_units xs) (wide_units ys)) (h 1) (k 1)) refl
 slice_cmp-pairs _ _ _ _ e g h k = absurd (omega arith)
-
--- two units are equal if their first bytes are, and their second
-pair_eq : (a b c d : ℕ) (rest : Bool) → b < 256 → d < 256 → (nat_eq (256 * a + b) (256 * c + d) && rest) ≡ (nat_eq a c && (nat_eq b d && rest))
-pair_eq a b c d rest low other = grind (arith, nat_tests)
-
--- units are equal if the bytes of whole pairs are
-pub pointwise-pairs : (m n : ℕ) (xs ys : List ℕ) → m ≡ length xs / 2 * 2 → n ≡ length ys / 2 * 2 → AreOctets xs → AreOctets ys → pointwise nat_eq (take m xs) (take n ys) ≡ pointwise nat_eq (wide_units xs) (wide_units ys)
-pointwise-pairs zero zero [] [] e g h k = refl
-pointwise-pairs zero zero [] (y ∷ []) e g h k = refl
-pointwise-pairs zero zero (x ∷ []) [] e g h k = refl
-pointwise-pairs zero zero (x ∷ []) (y ∷ []) e g h k = refl
-pointwise-pairs zero (suc (suc n)) [] (c ∷ d ∷ ys) e g h k = refl
-pointwise-pairs zero (suc (suc n)) (x ∷ []) (c ∷ d ∷ ys) e g h k = refl
-pointwise-pairs (suc (suc m)) zero (a ∷ b ∷ xs) [] e g h k = refl
-pointwise-pairs (suc (suc m)) zero (a ∷ b ∷ xs) (y ∷ []) e g h k = refl
-pointwise-pairs (suc (suc m)) (suc (suc n)) (a ∷ b ∷ xs) (c ∷ d ∷ ys) e g h k =
-    let rest = pointwise-pairs m n xs ys (omega arith) (omega arith) (λ i. h (suc (suc i))) (λ i. k (suc (suc i))) in
-    rw (rest, pair_eq a b c d (pointwise nat_eq (wide_units xs) (wide_units ys)) (h 1) (k 1)) refl
-pointwise-pairs _ _ _ _ e g h k = absurd (omega arith)

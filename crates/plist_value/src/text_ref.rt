@@ -1,6 +1,6 @@
 //! Borrowed strings.
 ghost use Rattle.std.specs.Prelude.{◌≡◌, ◌≢◌, ◌<◌, ◌≤◌, ◌*◌, ◌/◌, ◌%◌, ◌↔◌, IsSome, IfSome, All};
-ghost use Rattle.std.specs.Prelude.{true};
+ghost use Rattle.std.specs.Prelude.{IsTrue, true};
 ghost use Rattle.std.specs.Prelude.{nat_eq, nat_lt, length, slice_index, take};
 ghost use Rattle.std.specs.List.{list_all};
 ghost use Rattle.std.specs.Ordering.{nat_cmp, on, as_partial_cmp};
@@ -14,7 +14,7 @@ ghost use Rattle.plist_value.specs.Texts.{units_of, wide_units};
 ghost use Rattle.plist_value.specs.Texts.{is_ascii_kept, is_units_kept, is_wide_kept};
 
 use crate::ascii::Ascii;
-use crate::mixed::alike_mixed;
+use crate::stored::{Stored, alike};
 use crate::text_hash::feed_text;
 use crate::words::feed_octets;
 use std::cmp::Ordering;
@@ -105,9 +105,9 @@ impl<'a> TextRef<'a> {
         ensures { result ≡ slice_index (units_of self.now) i }
     {
         match self.kept {
-            Kept::Units(units) => unit_at(units, i),
-            Kept::Ascii(ascii) => u16::from(ascii.text.as_bytes()[i]),
-            Kept::Wide(octets) => wide_unit(octets, i),
+            Kept::Units(units) => units.unit(i),
+            Kept::Ascii(ascii) => ascii.unit(i),
+            Kept::Wide(octets) => octets.unit(i),
         }
     }
 
@@ -134,7 +134,7 @@ impl<'a> TextRef<'a> {
     }
 
     /// Returns the number of leading units that both share, up to `most`, which is at most either
-    /// length. Fast if one string was created by `of_ascii` and the other by `of_wide`.
+    /// length. Compares many units at once, however the strings are stored.
     pub fn alike(&self, other: &TextRef, most: usize) -> usize
         requires { (most ≤ length (units_of self.now)) × (most ≤ length (units_of other.now)) }
         ensures within { result ≤ most }
@@ -142,14 +142,13 @@ impl<'a> TextRef<'a> {
         ensures differ { result < most
             → slice_index (units_of self.now) result ≢ slice_index (units_of other.now) result }
     {
-        match (self.kept, other.kept) {
-            (Kept::Ascii(ascii), Kept::Wide(pairs)) => {
-                alike_mixed(ascii.text.as_bytes(), pairs, most)
-            }
-            (Kept::Wide(pairs), Kept::Ascii(ascii)) => {
-                alike_mixed(ascii.text.as_bytes(), pairs, most)
-            }
-            _ => alike_units(self, other, most),
+        if is_prefix_alike(self, other, most) {
+            return most;
+        }
+        match self.kept {
+            Kept::Units(units) => alike_to(&units, other, most),
+            Kept::Ascii(ascii) => alike_to(&ascii, other, most),
+            Kept::Wide(octets) => alike_to(&octets, other, most),
         }
     }
 
@@ -200,34 +199,13 @@ fn is_each_ascii(text: &TextRef) -> bool
     true
 }
 
-fn unit_at(units: &[u16], i: usize) -> u16
-    requires { i < length units.now }
-    ensures { result ≡ slice_index units.now i }
-{
-    units[i]
-}
-
-// Returns the unit in the bytes `2 * i` and `2 * i + 1`.
-pub(crate) fn wide_unit(octets: &[u8], i: usize) -> u16
-    requires { i < length (wide_units octets.now) }
-    ensures { result ≡ slice_index (wide_units octets.now) i }
-{
-    prove!(i < octets.len() / 2);
-    u16::from_be_bytes([octets[2 * i], octets[2 * i + 1]])
-}
-
 impl<'a> PartialEq for TextRef<'a> {
     ghost eq = { on units_of (pointwise nat_eq) };
 
     ghost laws = { Prim.search (comparing, rules) };
 
     fn eq(&self, other: &Self) -> bool {
-        match (self.kept, other.kept) {
-            (Kept::Units(units), Kept::Units(others)) => units == others,
-            (Kept::Ascii(ascii), Kept::Ascii(other)) => ascii.text == other.text,
-            (Kept::Wide(octets), Kept::Wide(others)) => same_pairs(octets, others),
-            _ => same_units(self, other),
-        }
+        self.len() == other.len() && self.alike(other, self.len()) == self.len()
     }
 }
 
@@ -282,33 +260,23 @@ impl<'a> Hash for TextRef<'a> {
     }
 }
 
-fn same_pairs(octets: &[u8], others: &[u8]) -> bool
-    ensures { result ≡ pointwise nat_eq (wide_units octets.now) (wide_units others.now) }
-{
-    whole_pairs(octets) == whole_pairs(others)
-}
-
-// Big-endian units have the order of their bytes.
+// Compares the bytes, which gives the order of the units: each unit has its high byte first.
 fn compare_pairs(octets: &[u8], others: &[u8]) -> Ordering
     ensures { result ≡ slice_cmp nat_cmp (wide_units octets.now) (wide_units others.now) }
 {
-    whole_pairs(octets).cmp(&whole_pairs(others))
+    let pairs = first_pairs(octets, octets.len() / 2);
+    pairs.cmp(&first_pairs(others, others.len() / 2))
 }
 
-// Returns the bytes without an odd one at the end, which is part of no unit.
-fn whole_pairs(octets: &[u8]) -> &[u8]
-    ensures { result.now ≡ take (length octets.now / 2 * 2) octets.now }
+// Returns the bytes of the first `count` units.
+fn first_pairs(octets: &[u8], count: usize) -> &[u8]
+    requires { count ≤ length octets.now / 2 }
+    ensures { result.now ≡ take (count * 2) octets.now }
 {
-    &octets[..octets.len() / 2 * 2]
+    &octets[..count * 2]
 }
 
 // Works for each way of storing the strings; slices of the same kind are compared faster.
-fn same_units(text: &TextRef, other: &TextRef) -> bool
-    ensures { result ≡ pointwise nat_eq (units_of text.now) (units_of other.now) }
-{
-    text.len() == other.len() && text.alike(other, text.len()) == text.len()
-}
-
 fn compare_units(text: &TextRef, other: &TextRef) -> Ordering
     ensures { result ≡ slice_cmp nat_cmp (units_of text.now) (units_of other.now) }
 {
@@ -321,18 +289,35 @@ fn compare_units(text: &TextRef, other: &TextRef) -> Ordering
     unit.cmp(&other_unit)
 }
 
-// Works for each way of storing the strings.
-fn alike_units(text: &TextRef, other: &TextRef, most: usize) -> usize
-    requires { (most ≤ length (units_of text.now)) × (most ≤ length (units_of other.now)) }
-    ensures within { result ≤ most }
-    ensures same { take result (units_of other.now) ≡ take result (units_of text.now) }
-    ensures differ { result < most
-        → slice_index (units_of text.now) result ≢ slice_index (units_of other.now) result }
+// Returns whether both share this number of leading units. `false` is only a hint: strings that are
+// stored in different ways are not compared.
+fn is_prefix_alike(text: &TextRef, other: &TextRef, count: usize) -> bool
+    requires { (count ≤ length (units_of text.now)) × (count ≤ length (units_of other.now)) }
+    ensures { IsTrue result → take count (units_of other.now) ≡ take count (units_of text.now) }
 {
-    for i in 0..most {
-        if text.unit(i) != other.unit(i) {
-            return i;
+    match (text.kept, other.kept) {
+        (Kept::Units(units), Kept::Units(others)) => units[..count] == others[..count],
+        (Kept::Ascii(ascii), Kept::Ascii(other)) => {
+            ascii.text.as_bytes()[..count] == other.text.as_bytes()[..count]
         }
+        (Kept::Wide(octets), Kept::Wide(others)) => {
+            first_pairs(octets, count) == first_pairs(others, count)
+        }
+        _ => false,
     }
-    most
+}
+
+// Returns the number of leading units that both share, up to `most`.
+fn alike_to<A: Stored>(units: &A, other: &TextRef, most: usize) -> usize
+    requires { (most ≤ length (A.units units.now)) × (most ≤ length (units_of other.now)) }
+    ensures within { result ≤ most }
+    ensures same { take result (units_of other.now) ≡ take result (A.units units.now) }
+    ensures differ { result < most
+        → slice_index (A.units units.now) result ≢ slice_index (units_of other.now) result }
+{
+    match other.kept {
+        Kept::Units(others) => alike(units, &others, most),
+        Kept::Ascii(ascii) => alike(units, &ascii, most),
+        Kept::Wide(octets) => alike(units, &octets, most),
+    }
 }

@@ -4,7 +4,7 @@ use Rattle.plist_keys.proofs.order.KeyOrder.rows.Goals.{in-Some+in_ok-texts+in_d
 pub ranked_rows-requires-clause-ranks : goal.ranked_rows-requires-clause-ranks
 ranked_rows-requires-clause-ranks c =
     elim c.match-self.branch [
-      | in-Some+in_ok-texts+in_default-2+in_ok-of_reached+in_ok-self w ↦ rw w.self-is w.in_ok-self.ensures
+      | in-Some+in_ok-texts+in_default-2+in_ok-of_reached+in_ok-self w ↦ rw w.self-is w.in_ok-self.ensures.ranks
       | in_default w ↦ rw w.self-is c.requires.ready.ranks
     ]
 
@@ -15,7 +15,7 @@ returns-clause-ready c =
         last = c.requires.ready.last;
         longest = c.requires.ready.longest;
         ascending = c.requires.ready.ascending;
-        ranks = w.in_ok-self.ensures;
+        ranks = w.in_ok-self.ensures.ranks;
       }
       | in_default w ↦ rw w.self-is c.requires.ready
     ]
