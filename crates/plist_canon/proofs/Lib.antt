@@ -15,3 +15,4 @@ pub mod Meeting
 pub mod TableParts
 pub mod Spending
 pub mod Paths
+pub mod Firsts

@@ -18,7 +18,7 @@ use Rattle.plist_canon.proofs.Spending.{HasLeft-passed, HasLeft-popped, HasLeft-
 use Rattle.std.specs.Option.{is_some}
 use Rattle.plist_object.specs.Layout.{trailer_of}
 use Rattle.plist_object.specs.Objects.{Content}
-use Rattle.plist_canon.specs.Rules.{IsBroken, breaks_limits}
+use Rattle.plist_canon.specs.Rules.{IsBroken, IsNumberedInPreorder, breaks_limits}
 use Rattle.plist_canon.specs.declared.preorder.Walk.{Walk}
 use Rattle.plist_canon.specs.Remaining.{HasLeft, TakesLeft}
 use Rattle.plist_canon.proofs.WalkTrees.{value_of_walk}
@@ -183,19 +183,23 @@ module _ (f : List ℕ) (walk : Walk) (all : WalkedAll f walk) (seen : SeenInTur
   ends : (after : Option Budget) → GoesOn walk.weights.items (path_groups walk.path.items) walk.left [] after → HasVisited f (length walk.weights.items) after []
   ends after goes = goes f seen.weighed stands
 
-  -- no reference is left, and the limits are kept
+  -- no reference is left
+  pub walks-numbered : (left : Option Budget) → GoesOn walk.weights.items (path_groups walk.path.items) walk.left [] left → IsNumberedInPreorder f
+  walks-numbered left goes = IsWalking-done f (length walk.weights.items) (ends left goes).walking seen.counted
+
+  -- and the limits are kept
   pub walks-within : (left : Budget) → GoesOn walk.weights.items (path_groups walk.path.items) walk.left [] (Some left) → WalksWithinLimits f
   walks-within left goes =
       let last = ends (Some left) goes in
       record {
-        numbered = IsWalking-done f (length walk.weights.items) last.walking seen.counted;
+        numbered = walks-numbered (Some left) goes;
         fits = HasLeft-end f left (last.limits all.octets all.ascending);
       }
 
-  -- no reference is left, and a limit is exceeded
+  -- and a limit is exceeded
   pub breaks-limits : GoesOn walk.weights.items (path_groups walk.path.items) walk.left [] None → IsBroken f 0 0
   breaks-limits goes =
       let last = ends None goes in
-      let numbered = IsWalking-done f (length walk.weights.items) last.walking seen.counted in
+      let numbered = walks-numbered None goes in
       let v = value_of_walk f all.octets all.read all.ascending 0 numbered.entries numbered.walk in
       breaks_limits v.0 v.1 v.2 (last.limits all.octets all.ascending v.0 v.1 v.2)

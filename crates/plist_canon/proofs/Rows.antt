@@ -1,5 +1,5 @@
 -- Small files that follow the rules, or break one of them.
-use Rattle.std.proofs.Common.{◌≡◌, ℕ, zero, suc, ◌<◌, List, [], ◌∷◌, ◌++◌, replicate, Result, Ok, refl, sym, ap, subst, ◌∙◌, inl, inr, arith}
+use Rattle.std.proofs.Common.{◌≡◌, ℕ, true, false, zero, suc, ◌<◌, List, [], ◌∷◌, ◌++◌, replicate, Result, Ok, refl, sym, ap, subst, ◌∙◌, inl, inr, arith}
 use Rattle.std.specs.declared.cmp.Ordering.TheVariants.{Less, Greater}
 use Rattle.std.specs.List.{AllByRecursion}
 use Rattle.std.specs.List.Sorted.{IsStrictlySortedBy}
@@ -13,6 +13,7 @@ use Rattle.plist_object.specs.Places.{octets_at, object_at, what_holds, span_of,
 use Rattle.plist_object.specs.Shortest.{spelling_of, IsShortest}
 use Rattle.plist_object.proofs.Uniqueness.{same_held}
 use Rattle.plist_write.specs.Canonical.{canon}
+use Rattle.plist_keys.specs.Overlap.{keys_before, marked_length}
 use Rattle.plist_object.specs.References.{references_of}
 use Rattle.plist_canon.specs.Rules.{ReadsWithinLimits, FollowsRules, HasPlainTrailer, HasLeastWidths, Adjoins, IsSpelledCanonically, HasAscendingKeys, IsNoRepeat, IsNumberedInPreorder, held_by, begins, goes_on, TurnsAt, LeavesOver}
 use Rattle.plist_canon.proofs.InOrder.{AreBelow-none, AreBelow-new, new_or_known}
@@ -132,6 +133,15 @@ repeat_file = header ++ (162 ∷ 1 ∷ 2 ∷ 81 ∷ 97 ∷ 81 ∷ 97 ∷ 8 ∷ 1
 breaks-c6 : IsNoRepeat repeat_file 2 → ⊥
 unfolding what_holds object_at octets_at marked_object ascii_object content count_of_content
 breaks-c6 h = h (text (97 ∷ [])) refl 1 (omega arith) refl
+
+-- the dictionary has two keys, which fit into the file
+keys_counted : keys_before descending_file 3 ≡ 2
+unfolding what_holds object_at octets_at marked_object table_object ascii_object content count_of_content
+keys_counted = refl
+
+keys_measured : marked_length descending_file 0 (false ∷ true ∷ true ∷ []) ≡ 2
+unfolding what_holds object_at octets_at marked_object table_object ascii_object content count_of_content
+keys_measured = refl
 
 -- an array of two strings, the first of which is object 2
 abbrev unordered_file : List ℕ

@@ -9,6 +9,7 @@ pub use Rattle.plist_write.specs.Laws
 pub mod Rules
 pub mod Locality
 pub mod Checking
+pub mod First
 pub mod Codes
 pub mod Weights
 pub mod Visited

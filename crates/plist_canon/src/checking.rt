@@ -7,6 +7,7 @@ ghost use Rattle.plist_canon.specs.Rules.{FollowsRules};
 ghost use Rattle.plist_canon.specs.Locality.{IsCanonical};
 ghost use Rattle.plist_canon.specs.Checking.{IsCheckFault, IsFlaw, IsVerdict};
 ghost use Rattle.plist_canon.specs.Codes.{check_code, check_report};
+ghost use Rattle.plist_canon.specs.First.{IsFirstVerdict, IsReportedFlaw};
 
 use crate::object_rules::{Flaw, check_objects, check_trailer};
 use crate::objects::Input;
@@ -126,6 +127,7 @@ pub fn check(alloc: Global, octets: &[u8]) -> Result<Verdict, CheckFault>
     ensures verdict { IfOk result (IsVerdict octets.now) }
     ensures canonical { IfOk result
         (λ verdict. (verdict ≡ Verdict.Canonical) ↔ IsCanonical octets.now) }
+    ensures first { IfOk result (IsFirstVerdict octets.now) }
 {
     check_with_hasher(alloc, FixedHasher::new(), octets)
 }
@@ -147,6 +149,7 @@ pub fn check_with_hasher<S: BuildHasher + Copy>(
     ensures verdict { IfOk result (IsVerdict octets.now) }
     ensures canonical { IfOk result
         (λ verdict. (verdict ≡ Verdict.Canonical) ↔ IsCanonical octets.now) }
+    ensures first { IfOk result (IsFirstVerdict octets.now) }
 {
     let file = BinFile::of(octets)?;
     match check_rules(alloc, hasher, octets, file) {
@@ -170,6 +173,7 @@ fn check_rules<'a, S: BuildHasher + Copy>(
     requires valid { AreOctets (octets_of file) }
     ensures ok { OnOk result (FollowsRules (octets_of file.entry)) }
     ensures err { IfErr result (IsFlaw (octets_of file.entry)) }
+    ensures first { IfErr result (IsReportedFlaw (octets_of file.entry)) }
 {
     check_trailer(&file)?;
     let objects = &octets[..file.table() as usize];

@@ -1,5 +1,5 @@
 //! The rules about the trailer and about each object.
-ghost use Rattle.std.specs.Prelude.{◌≡◌, ◌↔◌, ◌<◌, ◌≤◌, IsTrue, Ok, length};
+ghost use Rattle.std.specs.Prelude.{◌≡◌, ◌↔◌, ◌<◌, ◌≤◌, ℕ, IsTrue, Ok, length};
 ghost use Rattle.std.specs.Prelude.{IfOk, IfErr, OnOk};
 ghost use Rattle.plist_keys.specs.KeyOrder.{IsReady};
 ghost use Rattle.plist_object.specs.Layout.{trailer_of};
@@ -7,9 +7,11 @@ ghost use Rattle.plist_object.specs.Objects.{IsContent};
 ghost use Rattle.plist_object.specs.Places.{Holds, span_of};
 ghost use Rattle.plist_object.specs.Views.{held_of, octets_of};
 ghost use Rattle.plist_canon.specs.Rules.{Each, HasPlainTrailer, HasLeastWidths, Adjoins};
-ghost use Rattle.plist_canon.specs.Rules.{IsSpelledCanonically, IsNoRepeat};
+ghost use Rattle.plist_canon.specs.Rules.{IsSpelledCanonically, IsNoRepeat, IsWellRead};
 ghost use Rattle.plist_canon.specs.Checking.{IsFlaw, earlier, IsEndBefore};
 ghost use Rattle.plist_canon.specs.Checking.{Follows, IsChecked};
+ghost use Rattle.plist_canon.specs.First.{IsFirstFlaw, IsFlawAt, IsObjectsFlaw, IsReportedFlaw};
+ghost use Rattle.plist_canon.specs.First.{IsTableFlaw};
 ghost use Rattle.plist_write.specs.RepeatFilter.{AreAdded};
 ghost use Rattle.plist_canon.specs.Steps.{Walked};
 
@@ -79,6 +81,7 @@ pub(crate) fn check_trailer(file: &BinFile) -> Result<(), Flaw>
     ensures plain { OnOk result (HasPlainTrailer (octets_of file.now)) }
     ensures widths { OnOk result (HasLeastWidths (octets_of file.now)) }
     ensures err { IfErr result (IsFlaw (octets_of file.now)) }
+    ensures first { IfErr result (IsReportedFlaw (octets_of file.now)) }
 {
     if !has_plain_trailer(file) {
         return Err(Flaw::at(Rule::PlainTrailer, 0));
@@ -115,6 +118,7 @@ pub(crate) fn check_objects<'a, S: BuildHasher + Copy>(
     ensures walked { IfOk result (Walked (octets_of input.now.file)
         (trailer_of (octets_of input.now.file)).count) }
     ensures err { IfErr result (IsFlaw (octets_of input.now.file)) }
+    ensures first { IfErr result (IsObjectsFlaw (octets_of input.now.file)) }
 {
     let (alloc, file) = (input.alloc, &input.file);
     let mut visited = Visited::new(alloc, &hasher, file)?;
@@ -141,7 +145,10 @@ fn first_flaw<S: BuildHasher + Copy>(
     requires added { AreAdded (octets_of file.now) (length builder.bits.items) builder }
     requires listed { length builder.bits.items ≤ (trailer_of (octets_of file.now)).count }
     requires flaw { IsFlaw (octets_of file.now) flaw }
-    ensures { IsFlaw (octets_of file.now) result }
+    ensures err { IsFlaw (octets_of file.now) result }
+    ensures first { ((j : ℕ) → j < length builder.bits.items → IsChecked (octets_of file.now) j)
+        → IsFlawAt (octets_of file.now) (length builder.bits.items) flaw
+        → IsFirstFlaw (octets_of file.now) result }
 {
     match check_repeats(alloc, hasher, file, builder) {
         Err(repeat) => flaw.or_earlier(repeat),
@@ -156,6 +163,7 @@ fn check_table(file: &BinFile, end: u64) -> Result<(), Flaw>
         (trailer_of (octets_of file.now)).count end }
     ensures adjoin { OnOk result (Each Adjoins (octets_of file.now)) }
     ensures err { IfErr result (IsFlaw (octets_of file.now)) }
+    ensures table { IfErr result (IsTableFlaw (octets_of file.now)) }
 {
     if end != file.table() {
         return Err(Flaw::at(Rule::Adjoining, file.count() - 1));
@@ -181,6 +189,7 @@ fn check_object<'a>(
         (λ read. span_of (octets_of input.now.file) i ≡ Ok (read.start, read.end)) }
     ensures ready { OnOk result (IsReady (octets_of input.now.file) order.new) }
     ensures err { IfErr result (IsFlaw (octets_of input.now.file)) }
+    ensures first { IfErr result (IsFlawAt (octets_of input.now.file) i) }
 {
     let Ok(read) = input.file.spanned(i) else {
         return Err(Flaw::at(Rule::Readable, i));
@@ -204,6 +213,8 @@ fn check_encoding(input: &Input, i: u64, offset: u64, read: &Spanned) -> Result<
     ensures follows { OnOk result (Follows (octets_of input.now.file) i) }
     ensures spelled { OnOk result (IsSpelledCanonically (octets_of input.now.file) i) }
     ensures err { IfErr result (IsFlaw (octets_of input.now.file)) }
+    ensures first { IsWellRead (octets_of input.now.file) i
+        → IfErr result (IsFlawAt (octets_of input.now.file) i) }
 {
     if read.start != offset {
         return Err(Flaw::at(Rule::Adjoining, i));

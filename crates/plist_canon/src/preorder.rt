@@ -5,6 +5,7 @@ ghost use Rattle.plist_value.specs.declared.budget.Budget.{Budget};
 ghost use Rattle.plist_object.specs.Places.{Holds};
 ghost use Rattle.plist_object.specs.Views.{held_of, numbers_of};
 ghost use Rattle.plist_canon.specs.Checking.{IsFlaw};
+ghost use Rattle.plist_canon.specs.First.{IsWalkFlaw};
 ghost use Rattle.plist_canon.specs.Preorders.{IsNoneSeen, grouped, groups_of, path_groups};
 ghost use Rattle.plist_canon.specs.Remaining.{TakesLeft};
 ghost use Rattle.plist_canon.specs.Steps.{ComesToNext, FrameGoesOn, SkipsScalar, PathGoesOn};
@@ -92,6 +93,8 @@ impl<'a> Walk<'a> {
     pub(crate) fn finish(self) -> Result<(), Flaw>
         ensures ok { OnOk result ((f : List ℕ) → WalkedAll f self.entry → WalksWithinLimits f) }
         ensures err { IfErr result (λ flaw. (f : List ℕ) → WalkedAll f self.entry → IsFlaw f flaw) }
+        ensures first { IfErr result
+            (λ flaw. (f : List ℕ) → WalkedAll f self.entry → IsWalkFlaw f flaw) }
     {
         let Walk {
             weights,

@@ -6,6 +6,7 @@ ghost use Rattle.plist_object.specs.Places.{Holds};
 ghost use Rattle.plist_object.specs.Views.{held_of, numbers_of, octets_of};
 ghost use Rattle.plist_canon.specs.Rules.{HasAscendingKeys};
 ghost use Rattle.plist_canon.specs.Checking.{IsFlaw, RefersWell};
+ghost use Rattle.plist_canon.specs.First.{IsFlawAt};
 
 use crate::object_rules::Flaw;
 use crate::objects::Input;
@@ -29,6 +30,7 @@ pub(crate) fn check_references<'a>(
         (λ ascend. IsTrue ascend ↔ HasAscendingKeys (octets_of input.now.file) i) }
     ensures ready { OnOk result (IsReady (octets_of input.now.file) order.new) }
     ensures err { IfErr result (IsFlaw (octets_of input.now.file)) }
+    ensures first { IfErr result (IsFlawAt (octets_of input.now.file) i) }
 {
     match object {
         Object::Scalar(_) => Ok(true),
@@ -48,6 +50,7 @@ fn check_items(file: &BinFile, i: u64, items: &Refs) -> Result<(), Flaw>
     ensures refers { OnOk result
         (RefersWell (octets_of file.now) (holds_list (numbers_of items.now))) }
     ensures err { IfErr result (IsFlaw (octets_of file.now)) }
+    ensures first { IfErr result (IsFlawAt (octets_of file.now) i) }
 {
     if !are_below(items, file.count()) {
         return Err(Flaw::at(Rule::Readable, i));
@@ -73,6 +76,7 @@ fn check_pairs<'a>(
         (λ ascend. IsTrue ascend ↔ HasAscendingKeys (octets_of input.now.file) i) }
     ensures ready { OnOk result (IsReady (octets_of input.now.file) order.new) }
     ensures err { IfErr result (IsFlaw (octets_of input.now.file)) }
+    ensures first { IfErr result (IsFlawAt (octets_of input.now.file) i) }
 {
     let file = &input.file;
     if !are_below(values, file.count()) {

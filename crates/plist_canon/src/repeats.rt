@@ -4,6 +4,7 @@ ghost use Rattle.plist_object.specs.Layout.{trailer_of};
 ghost use Rattle.plist_object.specs.Views.{octets_of};
 ghost use Rattle.plist_canon.specs.Rules.{IsNoRepeat};
 ghost use Rattle.plist_canon.specs.Checking.{IsFlaw};
+ghost use Rattle.plist_canon.specs.First.{IsFirstRepeat, IsRepeatAt};
 ghost use Rattle.plist_write.specs.RepeatFilter.{AreAdded, HasAdded};
 ghost use Rattle.plist_canon.specs.Seen.{HasSeen};
 
@@ -30,6 +31,8 @@ pub(crate) fn check_repeats<S: BuildHasher + Copy>(
     ensures ok { OnOk result
         ((i : ℕ) → i < length builder.bits.items → IsNoRepeat (octets_of file.now) i) }
     ensures err { IfErr result (IsFlaw (octets_of file.now)) }
+    ensures first { IfErr result
+        (IsFirstRepeat (octets_of file.now) (length builder.bits.items)) }
 {
     let filter = builder.build(alloc)?;
     let mut seen = ScalarNumbers::new(alloc, hasher, filter.len());
@@ -54,6 +57,7 @@ fn check_repeat<'a, S: BuildHasher + Copy>(
     ensures ok { OnOk result (IsNoRepeat (octets_of file.now) i) }
     ensures seen { OnOk result (HasSeen filter.now (octets_of file.now) (suc i) seen.new) }
     ensures err { IfErr result (IsFlaw (octets_of file.now)) }
+    ensures at { IfErr result (IsRepeatAt i) }
 {
     if !filter.may_repeat(i) {
         return Ok(());

@@ -3,6 +3,8 @@ use Rattle.std.proofs.lemmas.Result.{on_ok_weaker, IfErr-weaker}
 use Rattle.plist_object.specs.Views.{octets_of}
 use Rattle.plist_canon.specs.Checking.{IsFlaw}
 use Rattle.plist_canon.specs.Steps.{WalkedAll}
+use Rattle.plist_canon.specs.First.{IsReportedFlaw}
+use Rattle.plist_canon.proofs.Firsts.{objects_reported, passed_on, walk_reported}
 use Rattle.plist_canon.proofs.checking.check_rules.Goals as goal
 
 whole : (g : _) (c : goal.After-finish g) → WalkedAll (octets_of c.args.file) c.in_ok-check_objects.field-0
@@ -38,3 +40,19 @@ pub returns-clause-err : goal.returns-clause-err
 returns-clause-err g c =
     let f = octets_of c.args.file in
     IfErr-weaker c.finish.result _ (IsFlaw f) (λ flaw broken. broken f (whole g c)) c.finish.ensures.err
+
+pub returns-in_err-check_objects-clause-first : goal.returns-in_err-check_objects-clause-first
+returns-in_err-check_objects-clause-first g c =
+    let f = octets_of c.args.file in
+    let told = c.in_ok-check_trailer.ensures in
+    passed_on (IsReportedFlaw f) _ c.from_residual-in_err-check_objects.result c.from_residual-in_err-check_objects.ensures.1
+    (objects_reported f c.in_err-check_objects.field-0.0 (record { plain = told.plain; widths = told.widths }) c.in_err-check_objects.ensures.first)
+
+pub returns-clause-first : goal.returns-clause-first
+returns-clause-first g c =
+    let f = octets_of c.args.file in
+    let told = c.in_ok-check_trailer.ensures in
+    let objects = c.in_ok-check_objects.ensures in
+    IfErr-weaker c.finish.result _ (IsReportedFlaw f)
+    (λ flaw walk. walk_reported f flaw (record { plain = told.plain; widths = told.widths }) (λ i below. record { checked = objects.checked i below; single = objects.single i below }) objects.adjoin (walk f (whole g c)))
+    c.finish.ensures.first

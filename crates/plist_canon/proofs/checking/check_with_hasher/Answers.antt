@@ -4,6 +4,7 @@ use Rattle.plist_canon.specs.Rules.{FollowsRules, IsBroken}
 use Rattle.plist_canon.specs.Checking.{IsFlaw}
 use Rattle.plist_canon.specs.declared.checking.Verdict.TheVariants as verdict
 use Rattle.plist_canon.proofs.Followed.{verdict_decides}
+use Rattle.plist_canon.specs.First.{IsReported, IsReportedFlaw}
 use Rattle.plist_canon.proofs.checking.check_with_hasher.Goals as goal
 
 pub returns-in-Ok-clause-canonical : goal.returns-in-Ok-clause-canonical
@@ -23,3 +24,10 @@ returns-in-Err-Broken-clause-verdict g c =
     let flawed = subst (IsFlaw (octets_of c.in_ok-file.file)) c.in-Err-Broken.field-0-is c.in-Err-Broken.ensures.err in
     let broken : IsBroken (octets_of c.in_ok-file.file) c.number.result object = rw c.number.ensures flawed in
     subst (λ f. IsBroken f c.number.result object) c.in_ok-file.ensures.laid broken
+
+pub returns-in-Err-Broken-clause-first : goal.returns-in-Err-Broken-clause-first
+returns-in-Err-Broken-clause-first g c =
+    let object = c.in-Err-Broken.object in
+    let reported = subst (IsReportedFlaw (octets_of c.in_ok-file.file)) c.in-Err-Broken.field-0-is c.in-Err-Broken.ensures.first in
+    let first : IsReported (octets_of c.in_ok-file.file) c.number.result object = rw c.number.ensures reported in
+    subst (λ f. IsReported f c.number.result object) c.in_ok-file.ensures.laid first

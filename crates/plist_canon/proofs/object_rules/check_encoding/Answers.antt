@@ -1,4 +1,4 @@
-use Rattle.std.proofs.Common.{◌≡◌, ◌∙◌}
+use Rattle.std.proofs.Common.{◌≡◌, ◌∙◌, inl, refl}
 use Rattle.plist_object.specs.Places.{place_of}
 use Rattle.plist_object.specs.Views.{held_of, octets_of}
 use Rattle.plist_canon.specs.Rules.{breaks_c3, breaks_c4}
@@ -6,6 +6,7 @@ use Rattle.plist_object.proofs.Readable.{Holds-reads}
 use Rattle.plist_keys.proofs.KeysInTurn.{refuted}
 use Rattle.plist_canon.proofs.Checks.{not-Adjoins, span-offset}
 use Rattle.plist_canon.proofs.Occupied.{Holds-inside, begins-shortest}
+use Rattle.plist_canon.proofs.Firsts.{not-Follows}
 use Rattle.plist_canon.proofs.object_rules.check_encoding.Goals as goal
 
 pub returns-then-read-offset-clause-err : goal.returns-then-read-offset-clause-err
@@ -54,3 +55,14 @@ returns-clause-spelled c = λ reads.
 
 pub returns-clause-follows : goal.returns-clause-follows
 returns-clause-follows c = record { offset = c.args.offset; end = c.args.read.now.end; before = c.requires.before; span = rw c.if-read-offset.false at c.requires.span }
+
+pub returns-then-read-offset-clause-first : goal.returns-then-read-offset-clause-first
+returns-then-read-offset-clause-first c = λ well.
+    let f = octets_of c.args.input.now.file in
+    let read = c.args.read.now in
+    rw c.at.ensures (inl (refl, (well, not-Follows f c.args.i c.args.offset read.start read.end c.requires.before c.requires.span c.if-read-offset.true)))
+
+pub returns-then-not-begins_canonically-clause-first : goal.returns-then-not-begins_canonically-clause-first
+returns-then-not-begins_canonically-clause-first c = λ well.
+    rw c.at-then-not-begins_canonically.ensures
+    (inl (refl, (well, record { offset = c.args.offset; end = c.args.read.now.end; before = c.requires.before; span = rw c.if-read-offset.false at c.requires.span })))

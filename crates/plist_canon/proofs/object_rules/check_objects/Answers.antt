@@ -1,10 +1,12 @@
-use Rattle.std.proofs.Common.{◌≡◌, ℕ, sym, subst, arith}
+use Rattle.std.proofs.Common.{◌≡◌, ℕ, inl, inr, sym, subst, arith}
 use Rattle.plist_object.specs.Views.{octets_of}
 use Rattle.plist_object.specs.Layout.{trailer_of}
 use Rattle.plist_keys.proofs.KeysInTurn.{below_or_last}
 use Rattle.plist_write.specs.RepeatFilter.{AreAdded}
 use Rattle.plist_canon.specs.Checking.{IsChecked, IsEndBefore}
 use Rattle.plist_canon.specs.Steps.{Walked}
+use Rattle.plist_canon.specs.First.{IsFlawAt, IsObjectsFlaw}
+use Rattle.plist_canon.proofs.Firsts.{passed_on, repeat_flaw}
 use Rattle.plist_canon.proofs.object_rules.check_objects.Goals as goal
 
 pub loop-i-init : goal.loop-i-init
@@ -70,3 +72,31 @@ returns-clause-walked g c =
     let before = c.loop-i.invariant in
     let all : c.loop-i.i ≡ (trailer_of f).count = omega (arith, c.loop-i-test.false, c.loop-i.auto.i-end, c.count-i-end.ensures) in
     subst (λ (k : ℕ). Walked f k c.loop-i.visited.walk) all before.visited.walked
+
+pub returns-in-Err-clause-first : goal.returns-in-Err-clause-first
+returns-in-Err-clause-first g c =
+    let f = octets_of c.args.input.now.file in
+    let long = c.loop-i.invariant.visited.added.added in
+    inl (c.first_flaw.ensures.first
+    (λ j below. c.loop-i.invariant.checked j (omega (arith, below, long)))
+    (subst (λ (n : ℕ). IsFlawAt f n c.in-Err.flaw) (sym long) c.in-Err.ensures.first))
+
+pub returns-in_err-check_repeats-clause-first : goal.returns-in_err-check_repeats-clause-first
+returns-in_err-check_repeats-clause-first g c =
+    let f = octets_of c.args.input.now.file in
+    let long = c.loop-i.invariant.visited.added.added in
+    passed_on (IsObjectsFlaw f) _ c.from_residual-in_err-check_repeats.result c.from_residual-in_err-check_repeats.ensures.1
+    (inl (repeat_flaw f _ c.in_err-check_repeats.field-0.0 (λ j below. c.loop-i.invariant.checked j (omega (arith, below, long))) c.in_err-check_repeats.ensures.first))
+
+pub returns-in_err-check_table-clause-first : goal.returns-in_err-check_table-clause-first
+returns-in_err-check_table-clause-first g c =
+    let f = octets_of c.args.input.now.file in
+    let long = c.loop-i.invariant.visited.added.added in
+    passed_on (IsObjectsFlaw f) _ c.from_residual-in_err-check_table.result c.from_residual-in_err-check_table.ensures.1
+    (inr (
+      c.in_err-check_table.ensures.table,
+      λ i below. record {
+        checked = c.loop-i.invariant.checked i (omega (arith, below, c.loop-i-test.false, c.count-i-end.ensures));
+        single = c.in_ok-check_repeats.ensures.ok i (omega (arith, below, long, c.loop-i-test.false, c.count-i-end.ensures));
+      },
+    ))

@@ -1,4 +1,4 @@
-use Rattle.std.proofs.Common.{◌≡◌, ◌-◌, ℕ, sym, subst, ◌∙◌, arith, refl}
+use Rattle.std.proofs.Common.{◌≡◌, ◌-◌, ℕ, ap, sym, subst, ◌∙◌, arith, refl}
 use Rattle.plist_object.specs.Views.{octets_of}
 use Rattle.plist_object.specs.Layout.{trailer_of}
 use Rattle.plist_canon.specs.Rules.{breaks_c3}
@@ -21,3 +21,6 @@ pub returns-clause-adjoin : goal.returns-clause-adjoin
 returns-clause-adjoin c =
     let f = octets_of c.args.file.now in
     all-adjoin f (trailer_of f).count c.args.end refl c.requires.ends (c.if-end-table.false ∙ c.table.ensures.value) c.requires.follows
+
+pub returns-then-end-table-clause-table : goal.returns-then-end-table-clause-table
+returns-then-end-table-clause-table c = rw c.at.ensures (refl, ap (λ (n : ℕ). n - 1) c.count.ensures)

@@ -1,4 +1,4 @@
-use Rattle.std.proofs.Common.{◌<◌, refl}
+use Rattle.std.proofs.Common.{◌<◌, inl, refl}
 use Rattle.std.specs.Prelude.{EachIndex, IsTrue, ◌↔◌, slice_index}
 use Rattle.plist_object.specs.Layout.{trailer_of}
 use Rattle.plist_object.specs.Objects.{holds_table}
@@ -60,3 +60,19 @@ returns-clause-ascend c =
     let told = c.ascend.ensures.ascend in
     let turns : IsTrue c.ascend.result ↔ AscendInTurn f keys = (λ yes. (told.0 yes).ascend, λ ascend. told.1 (record { names = names; ascend = ascend })) in
     rw c.if-ascend.false at (ascend-both f c.args.i keys values c.ascend.result c.requires.holds names turns)
+
+pub returns-then-not-are_below-clause-first : goal.returns-then-not-are_below-clause-first
+returns-then-not-are_below-clause-first c =
+    let f = octets_of c.args.input.now.file in
+    let keys = numbers_of c.args.keys.now in
+    let values = numbers_of c.args.values.now in
+    let none = refuted (EachIndex values (λ k. slice_index values k < c.count.result)) c.are_below.result c.are_below.ensures c.if-not-are_below.true in
+    rw c.at.ensures (inl (refl, λ read. none (rw c.count.ensures (values_below f keys values (IsWellRead-refers f c.args.i (holds_table keys values) c.requires.holds.reads read)))))
+
+pub returns-then-not-name_texts-clause-first : goal.returns-then-not-name_texts-clause-first
+returns-then-not-name_texts-clause-first c =
+    let f = octets_of c.args.input.now.file in
+    let keys = numbers_of c.args.keys.now in
+    let values = numbers_of c.args.values.now in
+    let none = refuted (NameTexts f keys) c.name_texts.result c.name_texts.ensures c.if-not-name_texts.true in
+    rw c.at-then-not-name_texts.ensures (inl (refl, λ read. none (keys_named f keys values (IsWellRead-refers f c.args.i (holds_table keys values) c.requires.holds.reads read))))

@@ -1,4 +1,4 @@
-use Rattle.std.proofs.Common.{sym, ◌∙◌}
+use Rattle.std.proofs.Common.{refl, sym, ◌∙◌}
 use Rattle.plist_object.specs.Views.{octets_of}
 use Rattle.plist_canon.specs.Rules.{breaks_c6}
 use Rattle.plist_write.specs.RepeatFilter.{MayRepeat}
@@ -43,3 +43,6 @@ pub returns-clause-seen : goal.returns-clause-seen
 returns-clause-seen g c =
     let enters = c.in_ok-earlier.ensures.entered c.requires.seen.numbered in
     HasSeen-scalar c.args.filter.now (octets_of c.args.file.now) c.args.i _ c.in-Some.scalar c.args.seen.now c.enter.new.self c.in_ok-earlier.earlier (c.may_repeat.ensures.0 c.if-not-may_repeat.false) c.in-Some.ensures.some c.requires.seen enters
+
+pub returns-then-is_some-clause-at : goal.returns-then-is_some-clause-at
+returns-then-is_some-clause-at g c = rw c.at.ensures (refl, refl)

@@ -5,6 +5,8 @@ use Rattle.plist_canon.specs.Rules.{IsNoRepeat}
 use Rattle.plist_write.specs.RepeatFilter.{HasAdded}
 use Rattle.plist_canon.specs.Seen.{HasSeen}
 use Rattle.plist_keys.proofs.KeysInTurn.{below_or_last}
+use Rattle.plist_canon.specs.First.{IsFirstRepeat}
+use Rattle.plist_canon.proofs.Firsts.{passed_on, repeat_first}
 use Rattle.plist_canon.proofs.repeats.check_repeats.Goals as goal
 
 pub loop-i-init : goal.loop-i-init
@@ -41,3 +43,11 @@ pub returns-clause-ok : goal.returns-clause-ok
 returns-clause-ok g c =
     let added = c.in_ok-filter.ensures (octets_of c.args.file.now) (length c.args.builder.bits.items) c.requires.added in
     λ i below. c.loop-i.invariant.single i (omega (arith, below, c.loop-i-test.false, c.len-i-end.ensures, added.added))
+
+pub returns-in_err-check_repeat-clause-first : goal.returns-in_err-check_repeat-clause-first
+returns-in_err-check_repeat-clause-first g c =
+    let f = octets_of c.args.file.now in
+    let end = length c.args.builder.bits.items in
+    let added = c.in_ok-filter.ensures f end c.requires.added in
+    passed_on (IsFirstRepeat f end) _ c.from_residual-in_err-check_repeat.result c.from_residual-in_err-check_repeat.ensures.1
+    (repeat_first f c.loop-i.i end c.in_err-check_repeat.field-0.0 (omega (arith, c.loop-i-test.true, c.len-i-end.ensures, added.added)) c.loop-i.invariant.single c.in_err-check_repeat.ensures.at)
