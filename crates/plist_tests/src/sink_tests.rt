@@ -76,6 +76,7 @@ fn a_sink_of_any_step(rt: HostRuntime) -> Result<(), Fail> {
             return Err(Fail::from("no step, or it does not fit"));
         }
         let mut sink = ListSink::new(alloc, room, step)?;
+        assert!(rt; sink.taken().is_empty(), "{room}, {step}");
         assert_eq!(rt;
             write_canonical(alloc, &value, &mut sink),
             answer,

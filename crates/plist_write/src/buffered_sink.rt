@@ -32,6 +32,8 @@ impl<'a, W: Sink> BufferedSink<'a, W> {
     pub fn put(&mut self, octets: &[u8]) -> Result<(), WriteFault>
         ensures emits { Emits octets.now
             (sink_state W.Sink self.old) (sink_state W.Sink self.new) result }
+        ensures short { OnOk result
+            (0 < length octets.now → length self.new.waiting.now.items < 4096) }
     {
         if octets.is_empty() {
             return Ok(());

@@ -15,7 +15,7 @@ ghost use Rattle.plist_write.specs.Notation.{items_in, last_line, pairs_in};
 ghost use Rattle.plist_write.specs.Notation.{text_in, document_in};
 
 use crate::notation::{Mark, Notation};
-use crate::objects::{Source, TableRefs, object_of};
+use crate::objects::{Input, TableRefs, object_of};
 use crate::order::push_sorted;
 use crate::{BufferedSink, WriteFault};
 use plist_devices::Sink;
@@ -72,8 +72,8 @@ fn write_whole<W: Sink, N: Notation<W>>(
         mut order,
         ..
     } = judged;
-    let source = Source { alloc, file };
-    source.write_value::<W, N>(&mut order, file.top(), 0, out)?;
+    let input = Input { alloc, file };
+    input.write_value::<W, N>(&mut order, file.top(), 0, out)?;
     N::write_mark(Mark::TextEnd, out)?;
     out.flush()
 }
@@ -91,7 +91,7 @@ fn end_lines<W: Sink, N: Notation<W>>(
     N::write_mark(close, out)
 }
 
-impl<'a> Source<'a> {
+impl<'a> Input<'a> {
     // Writes the value of the object. What precedes it on its line is written already, and `level`
     // is the level of that line.
     #[cycle(write)]

@@ -9,7 +9,7 @@ use std::alloc::Global;
 
 // A file that encodes a value, and the allocator for what is made of it.
 #[derive(Clone, Copy)]
-pub(crate) struct Source<'a> {
+pub(crate) struct Input<'a> {
     pub(crate) alloc: Global,
     pub(crate) file: BinFile<'a>,
 }

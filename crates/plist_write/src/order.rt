@@ -6,7 +6,7 @@ ghost use Rattle.plist_object.specs.Views.{numbers_of, octets_of};
 ghost use Rattle.plist_keys.specs.KeyOrder.{IsReady};
 ghost use Rattle.plist_write.specs.Spelling.{IsTableOf, SpellTable, sorted_references};
 
-use crate::objects::{Source, TableRefs};
+use crate::objects::{Input, TableRefs};
 use plist_keys::KeyOrder;
 use plist_object::{Refs, to_u32};
 use std::alloc::AllocError;
@@ -14,22 +14,22 @@ use std::alloc::AllocError;
 // Appends the references to a dictionary's keys, in ascending order of the keys, and then the
 // references to its values in the same order.
 pub(crate) fn push_sorted<'a>(
-    source: &Source<'a>,
+    input: &Input<'a>,
     order: &mut KeyOrder<'a>,
     table: &TableRefs<'a>,
     references: &mut Vec<u32>,
 ) -> Result<(), AllocError>
-    requires table { IsTableOf (octets_of source.now.file)
+    requires table { IsTableOf (octets_of input.now.file)
         (numbers_of table.now.keys) (numbers_of table.now.values) }
-    requires ready { IsReady (octets_of source.now.file) order.old }
+    requires ready { IsReady (octets_of input.now.file) order.old }
     ensures pushed { OnOk result ((rows : List (ℕ × ℕ)) (ps : Pairs)
-        → SpellTable (octets_of source.now.file)
+        → SpellTable (octets_of input.now.file)
         (numbers_of table.now.keys) (numbers_of table.now.values) rows ps
         → references.new.items ≡ references.old.items ++ sorted_references rows) }
-    ensures ready { IsReady (octets_of source.now.file) order.new }
+    ensures ready { IsReady (octets_of input.now.file) order.new }
 {
     references.reserve(table.keys.len().saturating_mul(2) as usize)?;
-    order.sort(source.alloc, &source.file, &table.keys)?;
+    order.sort(input.alloc, &input.file, &table.keys)?;
     push_at(&table.keys, order.indices(), &mut *references)?;
     push_at(&table.values, order.indices(), references)?;
     Ok(())

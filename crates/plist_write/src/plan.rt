@@ -8,7 +8,7 @@ ghost use Rattle.plist_write.specs.Plan.{AddsObject, IsEmptyPlan, IsUnseen};
 ghost use Rattle.plist_write.specs.Plan.{KnowsScalars, MeetsScalar, NumbersScalar};
 
 use crate::object_numbers::{ObjectNumbers, UNIQUE};
-use crate::objects::Source;
+use crate::objects::Input;
 use crate::scalar_numbers::ScalarNumbers;
 use plist_object::to_u32;
 use plist_value::{MAX_NODES, ScalarRef};
@@ -37,11 +37,11 @@ pub(crate) struct Plan<'a, S: BuildHasher> {
 impl<'a, S: BuildHasher + Copy> Plan<'a, S> {
     // Returns the empty plan. Capacity is reserved for what most files need, but for no more than
     // a value within the limits has. Reserved memory that is never used costs nothing.
-    pub(crate) fn new(source: &Source, hasher: S) -> Result<Plan<'a, S>, AllocError>
+    pub(crate) fn new(input: &Input, hasher: S) -> Result<Plan<'a, S>, AllocError>
         ensures empty { IfOk result IsEmptyPlan }
-        ensures knows { IfOk result (KnowsScalars (octets_of source.now.file)) }
+        ensures knows { IfOk result (KnowsScalars (octets_of input.now.file)) }
     {
-        let (alloc, file) = (source.alloc, &source.file);
+        let (alloc, file) = (input.alloc, &input.file);
         let objects = file.count().min(MAX_NODES);
         let references = objects.saturating_mul(4).min(MAX_NODES);
         let memo = ObjectNumbers::new(alloc, file.count())?;
@@ -60,24 +60,24 @@ impl<'a, S: BuildHasher + Copy> Plan<'a, S> {
     // equal scalar, or a new one.
     pub(crate) fn scalar(
         &mut self,
-        source: &Source,
+        input: &Input,
         object: u64,
         scalar: ScalarRef<'a>,
     ) -> Result<u32, AllocError>
-        requires { object < (trailer_of (octets_of source.now.file)).count }
-        ensures numbers { IfOk result (NumbersScalar (octets_of source.now.file) object
+        requires { object < (trailer_of (octets_of input.now.file)).count }
+        ensures numbers { IfOk result (NumbersScalar (octets_of input.now.file) object
             (content_of scalar.entry) self.old self.new) }
         ensures knows { OnOk result
-            (IsUnseen (octets_of source.now.file) object (content_of scalar.entry) self.old
-            → KnowsScalars (octets_of source.now.file) self.new) }
+            (IsUnseen (octets_of input.now.file) object (content_of scalar.entry) self.old
+            → KnowsScalars (octets_of input.now.file) self.new) }
     {
-        let file = &source.file;
+        let file = &input.file;
         if let Some(number) = self.memo.number_at(file, object, &scalar) {
             self.memo.keep(object, number);
             return Ok(number);
         }
         self.memo
-            .find_unique(source.alloc, &self.hasher, file, self.scalars.len())?;
+            .find_unique(input.alloc, &self.hasher, file, self.scalars.len())?;
         let next = self.next_number()?;
         if let Some(number) = meet(&self.memo, &mut self.scalars, object, scalar, next)? {
             self.memo.keep_scalar(file, object, &scalar, number)?;

@@ -21,7 +21,7 @@ ghost use Rattle.plist_write.specs.BufferedSink.{Stays, sink_state};
 use crate::buffered_sink::PIECE;
 use crate::file_end::send_end;
 use crate::new_objects::{NewObject, object_length, put_object};
-use crate::objects::Source;
+use crate::objects::Input;
 use crate::plan::CanonicalObjects;
 use crate::renumbering::renumbered_object;
 use crate::walk::objects_of;
@@ -66,51 +66,51 @@ pub fn write_canonical_of<S: BuildHasher + Copy, W: Sink>(
         → ArePieces (objects_of (preorder v)) (W.longest out.old) (W.longest out.new) }
 {
     let JudgedFile { file, order, .. } = judged;
-    let source = Source { alloc, file };
-    let objects = objects_of(&source, hasher, order)?;
-    send_file(&source, objects, out)
+    let input = Input { alloc, file };
+    let objects = objects_of(&input, hasher, order)?;
+    send_file(&input, objects, out)
 }
 
 fn send_file<W: Sink>(
-    source: &Source,
+    input: &Input,
     objects: CanonicalObjects,
     sink: &mut W,
 ) -> Result<u64, WriteFault>
-    requires can { CanSend (octets_of source.now.file) objects }
-    ensures written { IsWritten (file_of (planned (octets_of source.now.file) objects))
+    requires can { CanSend (octets_of input.now.file) objects }
+    ensures written { IsWritten (file_of (planned (octets_of input.now.file) objects))
         (W.taken sink.old) (W.taken sink.new)
         (W.failures sink.old) (W.failures sink.new) result }
     ensures same { W.device sink.new ≡ W.device sink.old }
-    ensures pieces { ArePieces (planned (octets_of source.now.file) objects)
+    ensures pieces { ArePieces (planned (octets_of input.now.file) objects)
         (W.longest sink.old) (W.longest sink.new) }
 {
-    let mut waiting = Vec::from_slice(source.alloc, &HEADER)?;
+    let mut waiting = Vec::from_slice(input.alloc, &HEADER)?;
     let mut out = BufferedSink {
         sink,
         waiting: &mut waiting,
         sent: 0,
     };
-    send_planned(source, objects, &mut out)
+    send_planned(input, objects, &mut out)
 }
 
 // Sends the file of the planned objects, whose header is already in the buffer.
 fn send_planned<W: Sink>(
-    source: &Source,
+    input: &Input,
     objects: CanonicalObjects,
     out: &mut BufferedSink<W>,
 ) -> Result<u64, WriteFault>
-    requires can { CanSend (octets_of source.now.file) objects }
+    requires can { CanSend (octets_of input.now.file) objects }
     requires begun { out.old.waiting.now.items ≡ header }
     requires first { out.old.sent ≡ 0 }
-    ensures written { IsWritten (file_of (planned (octets_of source.now.file) objects))
+    ensures written { IsWritten (file_of (planned (octets_of input.now.file) objects))
         (W.taken out.old.sink.now) (W.taken out.new.sink.now)
         (W.failures out.old.sink.now) (W.failures out.new.sink.now) result }
     ensures stays { Stays (sink_state W.Sink out.old) (sink_state W.Sink out.new) }
-    ensures pieces { ArePieces (planned (octets_of source.now.file) objects)
+    ensures pieces { ArePieces (planned (octets_of input.now.file) objects)
         (W.longest out.old.sink.now) (W.longest out.new.sink.now) }
 {
     let width = width_of(objects.originals.len() as u64);
-    let offsets = send_objects(source, width, &objects, out)?;
+    let offsets = send_objects(input, width, &objects, out)?;
     drop(objects);
     send_end(&offsets, out)?;
     Ok(out.sent)
@@ -118,32 +118,32 @@ fn send_planned<W: Sink>(
 
 // Sends the objects, and returns their offsets in the file.
 fn send_objects<W: Sink>(
-    source: &Source,
+    input: &Input,
     width: u8,
     objects: &CanonicalObjects,
     out: &mut BufferedSink<W>,
 ) -> Result<Vec<u64>, WriteFault>
     requires width { IsWidth width }
-    requires sound { AreSound (octets_of source.now.file)
+    requires sound { AreSound (octets_of input.now.file)
         objects.now.originals.items objects.now.references.items }
-    requires spellable { CanSpellAll width (helds_of (octets_of source.now.file)
+    requires spellable { CanSpellAll width (helds_of (octets_of input.now.file)
         objects.now.originals.items objects.now.references.items) }
     requires waits { 0 < length out.old.waiting.now.items }
     requires room { out.old.sent + (length out.old.waiting.now.items
-        + length (concat (octets_planned width (octets_of source.now.file) objects.now)))
+        + length (concat (octets_planned width (octets_of input.now.file) objects.now)))
         < 2 ^ 64 - 8 }
-    ensures emits { Emits (concat (octets_planned width (octets_of source.now.file) objects.now))
+    ensures emits { Emits (concat (octets_planned width (octets_of input.now.file) objects.now))
         (sink_state W.Sink out.old) (sink_state W.Sink out.new) result }
     ensures offsets { IfOk result (λ offsets. offsets.items
-        ≡ starts 8 (octets_planned width (octets_of source.now.file) objects.now)) }
-    ensures pieces { KeepsShort (octets_planned width (octets_of source.now.file) objects.now) 0
+        ≡ starts 8 (octets_planned width (octets_of input.now.file) objects.now)) }
+    ensures pieces { KeepsShort (octets_planned width (octets_of input.now.file) objects.now) 0
         (sink_state W.Sink out.old) (sink_state W.Sink out.new) result }
 {
-    let mut offsets = out.grown(Vec::with_capacity(source.alloc, objects.originals.len()))?;
+    let mut offsets = out.grown(Vec::with_capacity(input.alloc, objects.originals.len()))?;
     let mut numbers = objects.references.as_slice();
     let mut offset = 8;
     for original in &objects.originals {
-        let (object, behind) = renumbered_object(&source.file, u64::from(*original), numbers);
+        let (object, behind) = renumbered_object(&input.file, u64::from(*original), numbers);
         let size = object_length(width, &object);
         offsets.push_reserved(offset);
         send_object(width, &object, size, out)?;

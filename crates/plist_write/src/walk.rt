@@ -9,7 +9,7 @@ ghost use Rattle.plist_write.specs.Plan.{AreObjectsOf, AreWalked, IsWalked, Know
 ghost use Rattle.plist_write.specs.ObjectNumbers.{kept};
 
 use crate::object_numbers::UNIQUE;
-use crate::objects::{Source, TableRefs, object_of};
+use crate::objects::{Input, TableRefs, object_of};
 use crate::order::{push_all, push_sorted};
 use crate::plan::{CanonicalObjects, Plan};
 use plist_keys::KeyOrder;
@@ -20,18 +20,18 @@ use std::hash::BuildHasher;
 
 // Returns the objects of the canonical file of the value that the file encodes.
 pub(crate) fn objects_of<'a, S: BuildHasher + Copy>(
-    source: &Source<'a>,
+    input: &Input<'a>,
     hasher: S,
     order: KeyOrder<'a>,
 ) -> Result<CanonicalObjects, AllocError>
-    requires binary { (v : Plist) × IsBinary (octets_of source.now.file) v }
-    requires ready { IsReady (octets_of source.now.file) order }
-    ensures { IfOk result (λ objects. (v : Plist) → IsBinary (octets_of source.now.file) v
-        → AreObjectsOf (octets_of source.now.file) v objects) }
+    requires binary { (v : Plist) × IsBinary (octets_of input.now.file) v }
+    requires ready { IsReady (octets_of input.now.file) order }
+    ensures { IfOk result (λ objects. (v : Plist) → IsBinary (octets_of input.now.file) v
+        → AreObjectsOf (octets_of input.now.file) v objects) }
 {
-    let mut plan = Plan::new(source, hasher)?;
+    let mut plan = Plan::new(input, hasher)?;
     let mut order = order;
-    walk(source, &mut plan, &mut order, source.file.top(), MAX_DEPTH)?;
+    walk(input, &mut plan, &mut order, input.file.top(), MAX_DEPTH)?;
     Ok(plan.into_objects())
 }
 
@@ -40,16 +40,16 @@ pub(crate) fn objects_of<'a, S: BuildHasher + Copy>(
 #[cycle(walk)]
 #[inline(always)]
 fn walk<'a, S: BuildHasher + Copy>(
-    source: &Source<'a>,
+    input: &Input<'a>,
     plan: &mut Plan<'a, S>,
     order: &mut KeyOrder<'a>,
     object: u64,
     levels: u64,
 ) -> Result<u32, AllocError>
-    requires spells { SpellsWithin (octets_of source.now.file) object levels }
-    requires knows { Knows (octets_of source.now.file) plan.old order.old }
-    ensures walked { IfOk result (IsWalked (octets_of source.now.file) object plan.old plan.new) }
-    ensures knows { OnOk result (Knows (octets_of source.now.file) plan.new order.new) }
+    requires spells { SpellsWithin (octets_of input.now.file) object levels }
+    requires knows { Knows (octets_of input.now.file) plan.old order.old }
+    ensures walked { IfOk result (IsWalked (octets_of input.now.file) object plan.old plan.new) }
+    ensures knows { OnOk result (Knows (octets_of input.now.file) plan.new order.new) }
 {
     if let Some(number) = plan.memo.number_of(object) {
         return Ok(number);
@@ -57,39 +57,39 @@ fn walk<'a, S: BuildHasher + Copy>(
     if plan.memo.is_unique(object) {
         return plan.unique_scalar(object);
     }
-    walk_object(source, plan, order, object, levels)
+    walk_object(input, plan, order, object, levels)
 }
 
 // Like `walk`, for an object that was not visited as a scalar.
 #[cycle(walk)]
 fn walk_object<'a, S: BuildHasher + Copy>(
-    source: &Source<'a>,
+    input: &Input<'a>,
     plan: &mut Plan<'a, S>,
     order: &mut KeyOrder<'a>,
     object: u64,
     levels: u64,
 ) -> Result<u32, AllocError>
-    requires spells { SpellsWithin (octets_of source.now.file) object levels }
-    requires knows { Knows (octets_of source.now.file) plan.old order.old }
+    requires spells { SpellsWithin (octets_of input.now.file) object levels }
+    requires knows { Knows (octets_of input.now.file) plan.old order.old }
     requires unseen { UNIQUE ≤ kept plan.old.memo object }
-    ensures walked { IfOk result (IsWalked (octets_of source.now.file) object plan.old plan.new) }
-    ensures knows { OnOk result (Knows (octets_of source.now.file) plan.new order.new) }
+    ensures walked { IfOk result (IsWalked (octets_of input.now.file) object plan.old plan.new) }
+    ensures knows { OnOk result (Knows (octets_of input.now.file) plan.new order.new) }
 {
-    match object_of(&source.file, object) {
-        Object::Scalar(scalar) => plan.scalar(source, object, scalar),
+    match object_of(&input.file, object) {
+        Object::Scalar(scalar) => plan.scalar(input, object, scalar),
         Object::List(items) => {
             let first = plan.references.len();
             let number = plan.add(object)?;
             push_all(&items, &mut plan.references)?;
-            walk_children(source, plan, order, first, levels - 1)?;
+            walk_children(input, plan, order, first, levels - 1)?;
             Ok(number)
         }
         Object::Table(keys, values) => {
             let first = plan.references.len();
             let number = plan.add(object)?;
             let table = TableRefs { keys, values };
-            push_sorted(source, order, &table, &mut plan.references)?;
-            walk_children(source, plan, order, first, levels - 1)?;
+            push_sorted(input, order, &table, &mut plan.references)?;
+            walk_children(input, plan, order, first, levels - 1)?;
             Ok(number)
         }
     }
@@ -99,22 +99,22 @@ fn walk_object<'a, S: BuildHasher + Copy>(
 // by the number that it becomes.
 #[cycle(walk)]
 fn walk_children<'a, S: BuildHasher + Copy>(
-    source: &Source<'a>,
+    input: &Input<'a>,
     plan: &mut Plan<'a, S>,
     order: &mut KeyOrder<'a>,
     first: usize,
     levels: u64,
 ) -> Result<(), AllocError>
     requires first { first ≤ length plan.old.references.items }
-    requires spell { SpellWithin (octets_of source.now.file)
+    requires spell { SpellWithin (octets_of input.now.file)
         (drop first plan.old.references.items) levels }
-    requires knows { Knows (octets_of source.now.file) plan.old order.old }
-    ensures walked { OnOk result (AreWalked (octets_of source.now.file) first plan.old plan.new) }
-    ensures knows { OnOk result (Knows (octets_of source.now.file) plan.new order.new) }
+    requires knows { Knows (octets_of input.now.file) plan.old order.old }
+    ensures walked { OnOk result (AreWalked (octets_of input.now.file) first plan.old plan.new) }
+    ensures knows { OnOk result (Knows (octets_of input.now.file) plan.new order.new) }
 {
     for i in first..plan.references.len() {
         let object = plan.references[i];
-        let number = walk(source, plan, order, u64::from(object), levels)?;
+        let number = walk(input, plan, order, u64::from(object), levels)?;
         plan.references[i] = number;
     }
     Ok(())

@@ -21,17 +21,17 @@ renumbered_object-requires g c =
     let l = c.loop-original in
     let original = c.from.result in
     let is : original ≡ get_or start l.original-index original = search rules in
-    let sound = sound-next (octets_of c.args.source.now.file) start l.original-index original l.numbers.now (search rules) is l.invariant.sound in
+    let sound = sound-next (octets_of c.args.input.now.file) start l.original-index original l.numbers.now (search rules) is l.invariant.sound in
     record { read = sound.read; numbers = sound.enough }
 
 -- the object at the index, and what remains after it
-next : (g : given.Over) (c : After-renumbered_object g) → Step c.args.width (octets_of c.args.source.now.file) c.args.objects.now.originals.items c.loop-original.original-index c.from.result c.loop-original.numbers.now c.renumbered_object.result.1.now (octets_in_object c.args.width c.renumbered_object.result.0)
+next : (g : given.Over) (c : After-renumbered_object g) → Step c.args.width (octets_of c.args.input.now.file) c.args.objects.now.originals.items c.loop-original.original-index c.from.result c.loop-original.numbers.now c.renumbered_object.result.1.now (octets_in_object c.args.width c.renumbered_object.result.0)
 next g c =
     let start = c.args.objects.now.originals.items in
     let l = c.loop-original in
     let original = c.from.result in
     let is : original ≡ get_or start l.original-index original = search rules in
-    step c.args.width (octets_of c.args.source.now.file) start l.original-index original l.numbers.now c.renumbered_object.result.1.now (octets_in_object c.args.width c.renumbered_object.result.0) (search rules) is (c.renumbered_object.ensures.spelled c.args.width) c.renumbered_object.ensures.behind l.invariant.sound l.invariant.spellable
+    step c.args.width (octets_of c.args.input.now.file) start l.original-index original l.numbers.now c.renumbered_object.result.1.now (octets_in_object c.args.width c.renumbered_object.result.0) (search rules) is (c.renumbered_object.ensures.spelled c.args.width) c.renumbered_object.ensures.behind l.invariant.sound l.invariant.spellable
 
 pub object_length-size-requires-clause-spellable : goal.object_length-size-requires-clause-spellable
 object_length-size-requires-clause-spellable g c =
@@ -53,12 +53,12 @@ send_object-requires-clause-spellable g c =
 pub send_object-requires-clause-some : goal.send_object-requires-clause-some
 send_object-requires-clause-some g c =
     let spelled = ap length (c.renumbered_object.ensures.spelled c.args.width) in
-    let some = spelling-some c.args.width (renumbered (held_in (octets_of c.args.source.now.file) c.from.result) c.loop-original.numbers.now) in
+    let some = spelling-some c.args.width (renumbered (held_in (octets_of c.args.input.now.file) c.from.result) c.loop-original.numbers.now) in
     omega (arith, c.object_length-size.ensures, spelled, some)
 
 pub send_object-requires-clause-room : goal.send_object-requires-clause-room
 send_object-requires-clause-room g c =
-    let f = octets_of c.args.source.now.file in
+    let f = octets_of c.args.input.now.file in
     let start = c.args.objects.now.originals.items in
     let l = c.loop-original in
     let one = next g (goal.at.send_object-requires-clause-room g c).After-renumbered_object in
@@ -75,17 +75,17 @@ returns-in_err-send_object-clause-emits g c =
     let l = c.loop-original in
     let one = next g (goal.at.returns-in_err-send_object-clause-emits g c).After-renumbered_object in
     let octets = octets_in_object c.args.width c.renumbered_object.result.0 in
-    let later = concat (octets_for c.args.width (octets_of c.args.source.now.file) (drop (l.original-index + 1) c.args.objects.now.originals.items) c.renumbered_object.result.1.now) in
+    let later = concat (octets_for c.args.width (octets_of c.args.input.now.file) (drop (l.original-index + 1) c.args.objects.now.originals.items) c.renumbered_object.result.1.now) in
     let whole = ap (λ os. l.invariant.done ++ concat os) (sym one.split) ∙ l.invariant.split in
     let q = sink_state g.W.Sink l.out in
     let r = sink_state g.W.Sink c.send_object.new.out in
-    rw (p.1, p.2) (Emits_rest l.invariant.done (octets ++ later) (concat (octets_planned c.args.width (octets_of c.args.source.now.file) c.args.objects.now)) (sink_state g.W.Sink c.args.out.now) q r tt _ whole l.invariant.emits (Emits_stop octets later q r _ c.in_err-send_object.ensures.emits))
+    rw (p.1, p.2) (Emits_rest l.invariant.done (octets ++ later) (concat (octets_planned c.args.width (octets_of c.args.input.now.file) c.args.objects.now)) (sink_state g.W.Sink c.args.out.now) q r tt _ whole l.invariant.emits (Emits_stop octets later q r _ c.in_err-send_object.ensures.emits))
 
 pub overflow_add-offset : goal.overflow_add-offset
 overflow_add-offset g c =
     let l = c.loop-original in
     let one = next g (goal.at.overflow_add-offset g c).After-renumbered_object in
-    let all = concat (octets_planned c.args.width (octets_of c.args.source.now.file) c.args.objects.now) in
+    let all = concat (octets_planned c.args.width (octets_of c.args.input.now.file) c.args.objects.now) in
     let measured = measured-next l.offset c.object_length-size.result (8 + length all) _ _ _ c.object_length-size.ensures one.split l.invariant.measured in
     let bound = measured.0 in
     let room = c.requires.room in
@@ -98,8 +98,8 @@ loop-original-preserved g c =
     let i = l.original-index in
     let one = next g (goal.at.loop-original-preserved g c).After-renumbered_object in
     let octets = octets_in_object c.args.width c.renumbered_object.result.0 in
-    let later = octets_for c.args.width (octets_of c.args.source.now.file) (drop (i + 1) start) c.renumbered_object.result.1.now in
-    let all = octets_planned c.args.width (octets_of c.args.source.now.file) c.args.objects.now in
+    let later = octets_for c.args.width (octets_of c.args.input.now.file) (drop (i + 1) start) c.renumbered_object.result.1.now in
+    let all = octets_planned c.args.width (octets_of c.args.input.now.file) c.args.objects.now in
     let size = c.object_length-size.result in
     record {
       sound = one.sound;
@@ -121,9 +121,9 @@ loop-original-preserved g c =
 pub returns-clause-emits : goal.returns-clause-emits
 returns-clause-emits g c =
     let l = c.loop-original in
-    let all = concat (octets_planned c.args.width (octets_of c.args.source.now.file) c.args.objects.now) in
+    let all = concat (octets_planned c.args.width (octets_of c.args.input.now.file) c.args.objects.now) in
     let past : length c.args.objects.now.originals.items ≤ l.original-index = search rules in
-    let none = none-left c.args.width (octets_of c.args.source.now.file) c.args.objects.now.originals.items l.original-index l.numbers.now past in
+    let none = none-left c.args.width (octets_of c.args.input.now.file) c.args.objects.now.originals.items l.original-index l.numbers.now past in
     let whole = split-end l.invariant.done all _ none l.invariant.split in
     let emits = Emits_same l.invariant.done all (sink_state g.W.Sink c.args.out.now) (sink_state g.W.Sink l.out) _ whole l.invariant.emits in
     record { stays = emits.stays; done = emits.done; stopped = tt }
@@ -131,9 +131,9 @@ returns-clause-emits g c =
 pub returns-clause-offsets : goal.returns-clause-offsets
 returns-clause-offsets g c =
     let l = c.loop-original in
-    let all = octets_planned c.args.width (octets_of c.args.source.now.file) c.args.objects.now in
+    let all = octets_planned c.args.width (octets_of c.args.input.now.file) c.args.objects.now in
     let past : length c.args.objects.now.originals.items ≤ l.original-index = search rules in
-    let none = none-left c.args.width (octets_of c.args.source.now.file) c.args.objects.now.originals.items l.original-index l.numbers.now past in
+    let none = none-left c.args.width (octets_of c.args.input.now.file) c.args.objects.now.originals.items l.original-index l.numbers.now past in
     placed-end l.offsets.items l.offset _ all none l.invariant.offsets
 
 pub returns-in_err-send_object-clause-pieces : goal.returns-in_err-send_object-clause-pieces
@@ -155,7 +155,7 @@ pub returns-in_err-offsets-clause-emits : goal.returns-in_err-offsets-clause-emi
 returns-in_err-offsets-clause-emits g c =
     let e = err_from_is_err_and c.from_residual.result c.from_residual.ensures.1 in
     let p = sink_state g.W.Sink c.args.out.now in
-    rw (e.1, e.2, c.in_err-offsets.ensures.refused.1) (Emits_out (concat (octets_planned c.args.width (octets_of c.args.source.now.file) c.args.objects.now)) p.waiting p (omega (arith, c.requires.waits)))
+    rw (e.1, e.2, c.in_err-offsets.ensures.refused.1) (Emits_out (concat (octets_planned c.args.width (octets_of c.args.input.now.file) c.args.objects.now)) p.waiting p (omega (arith, c.requires.waits)))
 
 pub returns-in_err-offsets-clause-pieces : goal.returns-in_err-offsets-clause-pieces
 returns-in_err-offsets-clause-pieces g c = λ most allows fits before.
@@ -164,7 +164,7 @@ returns-in_err-offsets-clause-pieces g c = λ most allows fits before.
 
 pub loop-original-init : goal.loop-original-init
 loop-original-init g c =
-    let f = octets_of c.args.source.now.file in
+    let f = octets_of c.args.input.now.file in
     let start = c.args.objects.now.originals.items in
     let is = c.as_slice-numbers.ensures.value in
     let left = ap (octets_for c.args.width f start) is in

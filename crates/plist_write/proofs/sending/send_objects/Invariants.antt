@@ -11,7 +11,7 @@ use Rattle.plist_write.proofs.sending.send_objects.Given as goal
 -- the objects sent and those that remain are all objects
 abbrev pub invariant-loop-original : goal.invariant-loop-original
 invariant-loop-original g l =
-    let f = octets_of l.source.file in
+    let f = octets_of l.input.file in
     let left = drop l.original-index l.objects.originals.items in
     let all = octets_planned l.width f l.objects in
     record {

@@ -23,8 +23,8 @@ width g c =
     c.width_of-width.ensures.value ∙ ap least_width count
 
 -- the objects, with the name of the code for their width
-same_planned : (g : given.Over) (c : After-width_of-width g) → octets_planned c.width_of-width.result (octets_of c.args.source.now.file) c.args.objects ≡ planned (octets_of c.args.source.now.file) c.args.objects
-same_planned g c = ap (λ w. octets_planned w (octets_of c.args.source.now.file) c.args.objects) (width g c)
+same_planned : (g : given.Over) (c : After-width_of-width g) → octets_planned c.width_of-width.result (octets_of c.args.input.now.file) c.args.objects ≡ planned (octets_of c.args.input.now.file) c.args.objects
+same_planned g c = ap (λ w. octets_planned w (octets_of c.args.input.now.file) c.args.objects) (width g c)
 
 end-length : (objects : List (List ℕ)) → length (end_of (starts 8 objects) (8 + length (concat objects))) ≡ length (references (least_width (8 + length (concat objects))) (starts 8 objects)) + 32
 end-length objects =
@@ -33,7 +33,7 @@ end-length objects =
 pub send_objects-requires-clause-spellable : goal.send_objects-requires-clause-spellable
 send_objects-requires-clause-spellable g c =
     let is = width g (goal.at.send_objects-requires-clause-spellable g c).After-width_of-width in
-    subst (λ (w : ℕ). CanSpellAll w (helds_of (octets_of c.args.source.now.file) c.args.objects.originals.items c.args.objects.references.items)) (sym is) c.requires.can.spellable
+    subst (λ (w : ℕ). CanSpellAll w (helds_of (octets_of c.args.input.now.file) c.args.objects.originals.items c.args.objects.references.items)) (sym is) c.requires.can.spellable
 
 pub send_objects-requires-clause-waits : goal.send_objects-requires-clause-waits
 send_objects-requires-clause-waits g c = let begun = ap length c.requires.begun in omega (arith, begun)
@@ -41,7 +41,7 @@ send_objects-requires-clause-waits g c = let begun = ap length c.requires.begun 
 pub send_objects-requires-clause-room : goal.send_objects-requires-clause-room
 send_objects-requires-clause-room g c =
     let is = ap (λ os. length (concat os)) (same_planned g (goal.at.send_objects-requires-clause-room g c).After-width_of-width) in
-    let size = file-length (planned (octets_of c.args.source.now.file) c.args.objects) in
+    let size = file-length (planned (octets_of c.args.input.now.file) c.args.objects) in
     let begun = ap length c.requires.begun in
     omega (arith, is, size, begun, c.requires.can.short, c.requires.first)
 
@@ -49,7 +49,7 @@ pub returns-in_err-offsets-clause-written : goal.returns-in_err-offsets-clause-w
 returns-in_err-offsets-clause-written g c =
     let e = err_from_is_err_and c.from_residual.result c.from_residual.ensures.1 in
     let is = same_planned g (goal.at.returns-in_err-offsets-clause-written g c).After-width_of-width in
-    rw (e.1, e.2, sym is) (file-stops (octets_planned c.width_of-width.result (octets_of c.args.source.now.file) c.args.objects) (sink_state g.W.Sink c.args.out.now) c.requires.begun c.requires.first (sink_state g.W.Sink c.send_objects.new.out) _ c.in_err-offsets.ensures.emits)
+    rw (e.1, e.2, sym is) (file-stops (octets_planned c.width_of-width.result (octets_of c.args.input.now.file) c.args.objects) (sink_state g.W.Sink c.args.out.now) c.requires.begun c.requires.first (sink_state g.W.Sink c.send_objects.new.out) _ c.in_err-offsets.ensures.emits)
 
 pub returns-in_err-offsets-clause-pieces : goal.returns-in_err-offsets-clause-pieces
 returns-in_err-offsets-clause-pieces g c = λ most allows before.
@@ -60,7 +60,7 @@ returns-in_err-offsets-clause-pieces g c = λ most allows before.
 -- the end is written after the objects, at the offsets that were returned
 module _ (g : given.Over) (c : After-deref g) where
   abbrev objects : List (List ℕ)
-  objects = octets_planned c.width_of-width.result (octets_of c.args.source.now.file) c.args.objects
+  objects = octets_planned c.width_of-width.result (octets_of c.args.input.now.file) c.args.objects
 
   are : c.deref.result.now ≡ starts 8 objects
   are = c.deref.ensures.value ∙ c.in_ok-offsets.ensures.offsets
@@ -95,7 +95,7 @@ returns-clause-written g c =
     rw (sym is) (file-written (objects g at) (sink_state g.W.Sink c.args.out.now) c.requires.begun c.requires.first (sink_state g.W.Sink c.send_objects.new.out) c.deref.result.now _ (are g at) c.in_ok-offsets.ensures.emits (sink_state g.W.Sink c.send_end.new.out) _ c.in_ok-send_end.ensures.none c.in_ok-send_end.ensures.emits)
 
 -- no piece was too long when the objects were sent
-kept : (g : given.Over) (c : In_ok-offsets g) (most : ℕ) → Allows most (octets_planned c.width_of-width.result (octets_of c.args.source.now.file) c.args.objects) → (sink_state g.W.Sink c.args.out.now).longest ≤ most → PiecesWithin most (sink_state g.W.Sink c.send_objects.new.out)
+kept : (g : given.Over) (c : In_ok-offsets g) (most : ℕ) → Allows most (octets_planned c.width_of-width.result (octets_of c.args.input.now.file) c.args.objects) → (sink_state g.W.Sink c.args.out.now).longest ≤ most → PiecesWithin most (sink_state g.W.Sink c.send_objects.new.out)
 kept g c most allows before =
     let begun = ap length c.requires.begun in
     let sent = c.in_ok-offsets.ensures.pieces most allows (omega arith) (record { waits = omega (arith, begun, allows.least); pieces = before }) in

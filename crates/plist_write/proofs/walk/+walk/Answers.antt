@@ -37,7 +37,7 @@ children f i objects levels first old new number at_end apart adds within knows 
 
 pub walk-returns-in-Some-clause-walked : goal.walk-returns-in-Some-clause-walked
 walk-returns-in-Some-clause-walked g t c =
-    let f = octets_of c.args.source.now.file in
+    let f = octets_of c.args.input.now.file in
     let i = c.args.object in
     let plan = c.args.plan.now in
     let number = c.in-Some.number in
@@ -49,7 +49,7 @@ unseen f i r plan knows none holds = record { knows = knows; holds = holds; unse
 
 pub walk-returns-then-is_unique-clause-walked : goal.walk-returns-then-is_unique-clause-walked
 walk-returns-then-is_unique-clause-walked g t c =
-    let f = octets_of c.args.source.now.file in
+    let f = octets_of c.args.input.now.file in
     let i = c.args.object in
     let old = c.args.plan.now in
     let within = c.requires.spells in
@@ -61,7 +61,7 @@ walk-returns-then-is_unique-clause-walked g t c =
 
 pub walk-returns-then-is_unique-clause-knows : goal.walk-returns-then-is_unique-clause-knows
 walk-returns-then-is_unique-clause-knows g t c =
-    let f = octets_of c.args.source.now.file in
+    let f = octets_of c.args.input.now.file in
     let i = c.args.object in
     let plan = c.args.plan.now in
     let held = (c.requires.knows.scalars.singles i (c.is_unique.ensures c.if-is_unique.true)).0 in
@@ -70,14 +70,14 @@ walk-returns-then-is_unique-clause-knows g t c =
     c.unique_scalar.ensures.knows
 
 pub walk_object-object_of-requires : goal.walk_object-object_of-requires
-walk_object-object_of-requires g t c = read_within (octets_of c.args.source.now.file) c.args.object c.args.levels c.requires.spells
+walk_object-object_of-requires g t c = read_within (octets_of c.args.input.now.file) c.args.object c.args.levels c.requires.spells
 
 pub walk_object-overflow_sub-levels : goal.walk_object-overflow_sub-levels
-walk_object-overflow_sub-levels g t c = levels_within (octets_of c.args.source.now.file) c.args.object c.args.levels c.requires.spells
+walk_object-overflow_sub-levels g t c = levels_within (octets_of c.args.input.now.file) c.args.object c.args.levels c.requires.spells
 
 pub walk_object-walk_children-requires : goal.walk_object-walk_children-requires
 walk_object-walk_children-requires g t c =
-    let f = octets_of c.args.source.now.file in
+    let f = octets_of c.args.input.now.file in
     let objects = numbers_of c.in-List.items in
     let some = levels_within f c.args.object c.args.levels c.requires.spells in
     let at_end : c.len-first.result ≡ length c.args.plan.now.references.items = search rules in
@@ -91,17 +91,17 @@ walk_object-walk_children-requires g t c =
 
 pub walk_object-push_sorted-requires : goal.walk_object-push_sorted-requires
 walk_object-push_sorted-requires g t c = record {
-  table = is_table _ _ _ _ (table_within (octets_of c.args.source.now.file) c.args.object c.args.levels (numbers_of c.in-Table.keys) (numbers_of c.in-Table.values) c.in-Table.ensures.valid c.requires.spells c.in-Table.ensures.holds);
+  table = is_table _ _ _ _ (table_within (octets_of c.args.input.now.file) c.args.object c.args.levels (numbers_of c.in-Table.keys) (numbers_of c.in-Table.values) c.in-Table.ensures.valid c.requires.spells c.in-Table.ensures.holds);
   ready = c.requires.knows.ready;
 }
 
 pub walk_object-overflow_sub-levels-in-Table : goal.walk_object-overflow_sub-levels-in-Table
 walk_object-overflow_sub-levels-in-Table g t c =
-    levels_within (octets_of c.args.source.now.file) c.args.object c.args.levels c.requires.spells
+    levels_within (octets_of c.args.input.now.file) c.args.object c.args.levels c.requires.spells
 
 pub walk_object-walk_children-requires-in-Table : goal.walk_object-walk_children-requires-in-Table
 walk_object-walk_children-requires-in-Table g t c =
-    let f = octets_of c.args.source.now.file in
+    let f = octets_of c.args.input.now.file in
     let keys = numbers_of c.in-Table.keys in
     let values = numbers_of c.in-Table.values in
     let some = levels_within f c.args.object c.args.levels c.requires.spells in
@@ -116,7 +116,7 @@ walk_object-walk_children-requires-in-Table g t c =
 
 pub walk_object-returns-in-Scalar-clause-walked : goal.walk_object-returns-in-Scalar-clause-walked
 walk_object-returns-in-Scalar-clause-walked g t c =
-    let f = octets_of c.args.source.now.file in
+    let f = octets_of c.args.input.now.file in
     let old = c.args.plan.now in
     let new = c.scalar.new.self in
     let r = c.in-Scalar.scalar in
@@ -131,11 +131,11 @@ walk_object-returns-in_ok-walk_children-in-List-clause-walked g t c =
     let mid = c.add.new.self in
     let new : Plan _ _ = record mid { references = c.push_all.new.references } in
     let adds = with_references c.args.object objects c.args.plan.now mid new c.in_ok-number-in-List.number c.in_ok-number-in-List.ensures.adds refl refl refl c.in_ok-push_all-in-List.ensures in
-    walked-list (octets_of c.args.source.now.file) c.args.object objects c.args.plan.now new c.walk_children.new.plan c.in_ok-number-in-List.number c.len-first.result at_end adds c.in_ok-walk_children-in-List.ensures.walked c.in-List.ensures.holds
+    walked-list (octets_of c.args.input.now.file) c.args.object objects c.args.plan.now new c.walk_children.new.plan c.in_ok-number-in-List.number c.len-first.result at_end adds c.in_ok-walk_children-in-List.ensures.walked c.in-List.ensures.holds
 
 pub walk_object-returns-in_ok-walk_children-in-Table-clause-walked : goal.walk_object-returns-in_ok-walk_children-in-Table-clause-walked
 walk_object-returns-in_ok-walk_children-in-Table-clause-walked g t c =
-    let f = octets_of c.args.source.now.file in
+    let f = octets_of c.args.input.now.file in
     let keys = numbers_of c.in-Table.keys in
     let values = numbers_of c.in-Table.values in
     let at_end : c.len-first-in-Table.result ≡ length c.args.plan.now.references.items = search rules in
@@ -147,7 +147,7 @@ walk_object-returns-in_ok-walk_children-in-Table-clause-walked g t c =
 
 pub walk_object-returns-in-Scalar-clause-knows : goal.walk_object-returns-in-Scalar-clause-knows
 walk_object-returns-in-Scalar-clause-knows g t c =
-    let f = octets_of c.args.source.now.file in
+    let f = octets_of c.args.input.now.file in
     on_ok_weaker c.scalar.result
     (λ keeps. record { scalars = keeps (unseen f c.args.object c.in-Scalar.scalar c.args.plan.now c.requires.knows.scalars c.requires.unseen c.in-Scalar.ensures.holds); ready = c.requires.knows.ready })
     c.scalar.ensures.knows
@@ -163,7 +163,7 @@ walk_children-loop-i-init g t c = record {
 
 pub walk_children-walk-requires : goal.walk_children-walk-requires
 walk_children-walk-requires g t c =
-    let f = octets_of c.args.source.now.file in
+    let f = octets_of c.args.input.now.file in
     let start = c.args.plan.now.references.items in
     let now = c.loop-i.plan.references.items in
     let first = c.args.first in
@@ -190,7 +190,7 @@ walk_children-index_mut-requires g t c =
 
 pub walk_children-loop-i-preserved : goal.walk_children-loop-i-preserved
 walk_children-loop-i-preserved g t c =
-    let f = octets_of c.args.source.now.file in
+    let f = octets_of c.args.input.now.file in
     let start = c.args.plan.now.references.items in
     let now = c.loop-i.plan.references.items in
     let first = c.args.first in
@@ -217,7 +217,7 @@ walk_children-loop-i-preserved g t c =
 
 pub walk_children-returns-clause-walked : goal.walk_children-returns-clause-walked
 walk_children-returns-clause-walked g t c =
-    let f = octets_of c.args.source.now.file in
+    let f = octets_of c.args.input.now.file in
     let start = c.args.plan.now.references.items in
     let first = c.args.first in
     let i = c.loop-i.i in

@@ -22,6 +22,6 @@ invariant-walk_children-loop-i g l =
       within : l.i ≤ length start;
       done : List ℕ;
       filling : IsFilling l.first l.i start l.plan.references.items done;
-      more : (new : Plan _ _) (numbers : List ℕ) → ItemsWalked (octets_of l.source.file) (length start) (drop l.i start) l.plan new numbers → ItemsWalked (octets_of l.source.file) (length start) (drop l.first start) l.fn.plan new (done ++ numbers);
-      knows : Knows (octets_of l.source.file) l.plan l.order;
+      more : (new : Plan _ _) (numbers : List ℕ) → ItemsWalked (octets_of l.input.file) (length start) (drop l.i start) l.plan new numbers → ItemsWalked (octets_of l.input.file) (length start) (drop l.first start) l.fn.plan new (done ++ numbers);
+      knows : Knows (octets_of l.input.file) l.plan l.order;
     }

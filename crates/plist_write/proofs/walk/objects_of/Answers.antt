@@ -13,13 +13,13 @@ walk-requires-clause-spells g c =
     record {
       value = c.requires.binary.0;
       valid = binary.valid;
-      spells = subst (λ (i : ℕ). Spells (octets_of c.args.source.now.file) i c.requires.binary.0) (sym c.top.ensures.value) binary.spells;
+      spells = subst (λ (i : ℕ). Spells (octets_of c.args.input.now.file) i c.requires.binary.0) (sym c.top.ensures.value) binary.spells;
       deep = binary.fits.depth_fits;
     }
 
 pub returns : goal.returns
 returns g c = λ v binary.
-    let f = octets_of c.args.source.now.file in
+    let f = octets_of c.args.input.now.file in
     let walked = c.in_ok-walk.ensures.walked in
     let top = c.top.result in
     let spells = subst (λ (i : ℕ). Spells f i v) (sym c.top.ensures.value) binary.spells in

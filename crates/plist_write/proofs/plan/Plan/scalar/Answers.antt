@@ -14,7 +14,7 @@ with_memo plan memo = record plan { memo = memo }
 
 pub returns-in-Some-clause-numbers : goal.returns-in-Some-clause-numbers
 returns-in-Some-clause-numbers g c =
-    let f = octets_of c.args.source.now.file in
+    let f = octets_of c.args.input.now.file in
     let old = c.args.self.now in
     record {
       walks = λ unseen. Walks-known f (content_of c.args.scalar) old _ c.in-Some.number (seen-at-place f c.args.object (content_of c.args.scalar) old _ unseen (rw c.in-Some.is at c.number_at.ensures)) refl refl;
@@ -23,7 +23,7 @@ returns-in-Some-clause-numbers g c =
 
 pub returns-in-Some-clause-knows : goal.returns-in-Some-clause-knows
 returns-in-Some-clause-knows g c = λ unseen.
-    let f = octets_of c.args.source.now.file in
+    let f = octets_of c.args.input.now.file in
     let r = c.args.scalar in
     let i = c.args.object in
     let old = c.args.self.now in
@@ -33,7 +33,7 @@ returns-in-Some-clause-knows g c = λ unseen.
 
 pub returns-in-Some-2-clause-numbers : goal.returns-in-Some-2-clause-numbers
 returns-in-Some-2-clause-numbers g c =
-    let f = octets_of c.args.source.now.file in
+    let f = octets_of c.args.input.now.file in
     let r = c.args.scalar in
     let i = c.args.object in
     let old = c.args.self.now in
@@ -50,7 +50,7 @@ returns-in-Some-2-clause-numbers g c =
 
 pub returns-in-Some-2-clause-knows : goal.returns-in-Some-2-clause-knows
 returns-in-Some-2-clause-knows g c = λ unseen.
-    let f = octets_of c.args.source.now.file in
+    let f = octets_of c.args.input.now.file in
     let r = c.args.scalar in
     let i = c.args.object in
     let old = c.args.self.now in
@@ -66,7 +66,7 @@ returns-in-Some-2-clause-knows g c = λ unseen.
 
 pub returns-clause-numbers : goal.returns-clause-numbers
 returns-clause-numbers g c =
-    let f = octets_of c.args.source.now.file in
+    let f = octets_of c.args.input.now.file in
     let r = c.args.scalar in
     let i = c.args.object in
     let old = c.args.self.now in
@@ -82,7 +82,7 @@ returns-clause-numbers g c =
 
 pub returns-clause-knows : goal.returns-clause-knows
 returns-clause-knows g c = λ unseen.
-    let f = octets_of c.args.source.now.file in
+    let f = octets_of c.args.input.now.file in
     let r = c.args.scalar in
     let i = c.args.object in
     let old = c.args.self.now in

@@ -20,7 +20,7 @@ use Rattle.plist_write.proofs.Steps.{refused, brackets_unopened, brackets_unfill
 use Rattle.plist_write.proofs.Parts.{items_joined, pairs_joined, list_empty, list_filled, table_empty, table_filled}
 use Rattle.plist_write.proofs.Turns.{items_more, items_stop, items_done, pair_named, pairs_more, pairs_stop, pairs_done, pairs_within, turn_within}
 use Rattle.plist_write.proofs.Within.{read_within, levels_within, items_within, table_within, value_within, scalar_seen, list_seen, table_seen}
-use Rattle.plist_write.proofs.objects.Source.+write.Goals as goal
+use Rattle.plist_write.proofs.objects.Input.+write.Goals as goal
 
 pub write_value-object_of-requires : goal.write_value-object_of-requires
 write_value-object_of-requires g t c =

@@ -9,7 +9,7 @@ use Rattle.plist_write.specs.BufferedSink.{Emits, sink_state}
 use Rattle.plist_write.specs.Spelling.{sorted_references}
 use Rattle.plist_write.specs.Notation.{item_in, pair_in}
 use Rattle.plist_write.proofs.Turns.{item_texts, pair_texts}
-use Rattle.plist_write.proofs.objects.Source.+write.Given as goal
+use Rattle.plist_write.proofs.objects.Input.+write.Given as goal
 
 -- the remaining levels decrease, and each caller comes before what it calls
 abbrev pub decreases-write_value : goal.decreases-write_value
