@@ -9,7 +9,9 @@ pub mod Scaling
 pub mod Deciding
 pub mod Calendar
 pub mod Texts
+pub mod Visible
 pub mod Plain
+pub mod Encoded
 pub mod DataLines
 pub mod Endings
 pub mod DataFronts

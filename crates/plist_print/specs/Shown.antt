@@ -1,7 +1,9 @@
 -- What the types of the code represent.
-use Rattle.std.specs.Prelude.{◌≡◌, ℕ, ◌+◌, ◌^◌, ◌≤◌, Bool, true, false, Option, Some, None}
-use Rattle.std.specs.Prelude.{if◌then◌else◌}
+use Rattle.std.specs.Prelude.{◌≡◌, ℕ, ◌+◌, ◌^◌, ◌≤◌, Bool, true, false, not, ◌&&◌, ◌==◌, List, []}
+use Rattle.std.specs.Prelude.{◌∷◌, Option, Some, None, if◌then◌else◌}
+use Rattle.ucd_table.specs.Rows.{Range}
 use Rattle.plist_value.specs.Plist.{Scalar, text}
+use Rattle.plist_print.specs.Units.{is_invisible}
 use Rattle.plist_print.specs.Reals.{Scaled, nearest, reads_as}
 use Rattle.plist_print.specs.declared.numbers.Decimal.{Decimal}
 use Rattle.plist_print.specs.declared.numbers.Format.{Format}
@@ -32,3 +34,42 @@ tried x over = if reads_as x over (nearest x over) then Some (nearest x over) el
 abbrev pub is_short : Scalar → Bool
 is_short (text units) = false
 is_short _ = true
+
+-- the visible code points; those of most texts are first
+abbrev pub visible_ranges : List Range
+visible_ranges =
+    (0x20, 0x7e)
+    ∷ (0x3165, 0xd7ff)
+    ∷ (0x350, 0x5ff)
+    ∷ (0xae, 0x34e)
+    ∷ (0x3001, 0x3163)
+    ∷ (0x1d17b, 0xdffff)
+    ∷ (0xa1, 0xac)
+    ∷ (0x606, 0x61b)
+    ∷ (0x61d, 0x6dc)
+    ∷ (0x6de, 0x70e)
+    ∷ (0x710, 0x88f)
+    ∷ (0x892, 0x8e1)
+    ∷ (0x8e3, 0x115e)
+    ∷ (0x1161, 0x167f)
+    ∷ (0x1681, 0x17b3)
+    ∷ (0x17b6, 0x180a)
+    ∷ (0x1810, 0x1fff)
+    ∷ (0x2010, 0x2027)
+    ∷ (0x2030, 0x205e)
+    ∷ (0x2070, 0x2fff)
+    ∷ (0xe000, 0xfdff)
+    ∷ (0xfe10, 0xfefe)
+    ∷ (0xff00, 0xff9f)
+    ∷ (0xffa1, 0xffef)
+    ∷ (0xfffc, 0x110bc)
+    ∷ (0x110be, 0x110cc)
+    ∷ (0x110ce, 0x1342f)
+    ∷ (0x13440, 0x1bc9f)
+    ∷ (0x1bca4, 0x1d172)
+    ∷ (0xe1000, 0x10ffff)
+    ∷ []
+
+-- a visible unit that needs no escape
+abbrev pub is_verbatim : ℕ → Bool
+is_verbatim unit = not (unit == 34) && (not (unit == 92) && not (is_invisible unit))

@@ -1,11 +1,9 @@
 //! Invisible characters, according to Unicode 18.0.
 ghost use Rattle.std.specs.Prelude.{◌≡◌, Some, None, if◌then◌else◌};
 ghost use Rattle.std.specs.Char.Utf16.{surrogate_pair_char};
-ghost use Rattle.ucd_category.specs.GeneralCategory.{general_category};
-ghost use Rattle.plist_print.specs.Units.{is_blank, is_visible_pair, is_invisible};
-
-use ucd_category::GeneralCategory;
-use ucd_derived::is_default_ignorable_code_point;
+ghost use Rattle.ucd_table.specs.Rows.{in_ranges};
+ghost use Rattle.plist_print.specs.Units.{is_visible_pair};
+ghost use Rattle.plist_print.specs.Shown.{visible_ranges};
 
 // Returns the character of a surrogate pair, if it is visible.
 pub(crate) fn visible_pair(high: u16, low: u16) -> Option<char>
@@ -16,44 +14,54 @@ pub(crate) fn visible_pair(high: u16, low: u16) -> Option<char>
         return None;
     };
     let code = 0x1_0000 + (u32::from(high) - 0xd800) * 0x400 + (u32::from(low) - 0xdc00);
-    let character = char::from_u32(code).unwrap();
-    if is_invisible(character) {
+    if !is_visible(code) {
         return None;
     }
-    Some(character)
+    Some(char::from_u32(code).unwrap())
 }
 
-// Returns the character of a single unit, if it is visible.
-#[tactic(auto, unfolding(crate::specs::Units::is_invisible))]
-pub(crate) fn visible_unit(unit: u16) -> Option<char>
-    ensures { result ≡ (if is_invisible unit then None else Some unit) }
+// Returns whether the code point is visible. The proof compares these ranges with the tables of
+// the Unicode Character Database. A search of the tables takes ten times as long.
+#[inline(always)]
+#[tactic(auto, unfolding(ucd_table::specs::Rows::in_ranges))]
+pub(crate) fn is_visible(code: u32) -> bool
+    ensures { result ≡ in_ranges visible_ranges code }
 {
-    let character = char::from_u32(u32::from(unit))?;
-    if is_invisible(character) {
-        return None;
+    match code {
+        // Tested first, since each half of a pair is tested alone too.
+        0xd800..=0xdfff => false,
+        // The ranges of most texts.
+        0x0020..=0x007e
+        | 0x3165..=0xd7ff
+        | 0x0350..=0x05ff
+        | 0x00ae..=0x034e
+        | 0x3001..=0x3163
+        | 0x1_d17b..=0xd_ffff
+        // The others.
+        | 0x00a1..=0x00ac
+        | 0x0606..=0x061b
+        | 0x061d..=0x06dc
+        | 0x06de..=0x070e
+        | 0x0710..=0x088f
+        | 0x0892..=0x08e1
+        | 0x08e3..=0x115e
+        | 0x1161..=0x167f
+        | 0x1681..=0x17b3
+        | 0x17b6..=0x180a
+        | 0x1810..=0x1fff
+        | 0x2010..=0x2027
+        | 0x2030..=0x205e
+        | 0x2070..=0x2fff
+        | 0xe000..=0xfdff
+        | 0xfe10..=0xfefe
+        | 0xff00..=0xff9f
+        | 0xffa1..=0xffef
+        | 0xfffc..=0x1_10bc
+        | 0x1_10be..=0x1_10cc
+        | 0x1_10ce..=0x1_342f
+        | 0x1_3440..=0x1_bc9f
+        | 0x1_bca4..=0x1_d172
+        | 0xe_1000..=0x10_ffff => true,
+        _ => false,
     }
-    Some(character)
-}
-
-// Returns whether the character is invisible, or changes how others are displayed.
-#[tactic(auto, unfolding(crate::specs::Units::is_invisible))]
-fn is_invisible(character: char) -> bool
-    ensures { result ≡ is_invisible character }
-{
-    character != ' ' && (is_blank(character) || is_default_ignorable_code_point(character))
-}
-
-// Returns whether the character is a space, a separator, a control or a format character: Zs, Zl,
-// Zp, Cc or Cf.
-fn is_blank(character: char) -> bool
-    ensures { result ≡ is_blank (general_category character) }
-{
-    matches!(
-        GeneralCategory::for_char(character),
-        GeneralCategory::SpaceSeparator
-            | GeneralCategory::LineSeparator
-            | GeneralCategory::ParagraphSeparator
-            | GeneralCategory::Control
-            | GeneralCategory::Format
-    )
 }
