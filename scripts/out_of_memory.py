@@ -1,13 +1,15 @@
 #!/usr/bin/env python3
 """scripts/out_of_memory.py [TREE]: prints the lines of code that make the refusal 60 by
-hand, within a second.
+hand, or ask for memory of a size, within a second.
 
 No contract can say that memory was refused, so 60 has to come from the library's `AllocError`
 through `?`. A line makes it by hand if its code has one of the names in NAMES: outside of comments,
 clauses, types, declarations and `use` lines, and not only in the pattern of an arm of a `match`. An
 arm may give 60 if each of its patterns is 60. Another name for one of them is such a line too, and
 so are calls of `to_u32`, which fails for large numbers, what sets `needs_memory` or hands it on,
-and a `DeviceFault` in a file that the list has for one: a sink in memory, whose failure is 60.
+and a `DeviceFault` in a file that the list has for one: a sink in memory, whose failure is 60. A line
+that asks for memory of a size (SIZES: `reserve`, `with_capacity`, `resize` and the like) makes 60
+too, if the size is one that cannot be had.
 
 Each such line has to be in scripts/out_of_memory.txt, with the reason that it may. A line of that
 list is `FILE | FUNCTION | REASON | CODE`, in which FUNCTION begins with the type or impl that it is
@@ -28,6 +30,11 @@ LIST = "scripts/out_of_memory.txt"
 NAMES = re.compile(
     r"\b(?:OutOfMemory|NoMemory|AllocError|AllocFailed|(?<!fn )(?:print_no_memory|to_u32))\b"
     r"|\bneeds_memory\b(?!: bool)|\b(?:60|0x3[cC])(?:_?u8)?\b(?!\s*(?:\||=>))"
+)
+SIZES = re.compile(
+    r"\b(?<!fn )(?:(?:try_)?reserve(?:_exact)?|with_capacity\w*|resize(?:_with)?|repeat|zeroed"
+    r"|extend_from_within|extend_with|from_elem)\("
+    r"|\bvec!\[in [^;\]]*;[^;\]]*;"
 )
 FAULT = re.compile(r"\bDeviceFault\b")
 PATTERN = re.compile(r"\b(?:OutOfMemory|NoMemory|AllocError)\b|^60$")
@@ -151,7 +158,7 @@ def made(tree, sinks):
         for at, (line, function) in enumerate(zip(lines, functions(code))):
             bare = TYPE.sub("_", line)
             is_fault = str(name) in sinks and FAULT.search(bare)
-            if function is not None and (is_fault or is_made(bare)):
+            if function is not None and (is_fault or is_made(bare) or SIZES.search(bare)):
                 yield (str(name), function, condition(lines, at) + line.strip()), at + 1
 
 
@@ -173,7 +180,8 @@ def differences(tree):
         if left[place] > 0:
             left[place] -= 1
         else:
-            wrong.append(f"{place[0]}:{number}: {place[1]} makes 60 by hand: {place[2]}")
+            made_by = "asks for memory" if SIZES.search(place[2]) else "makes 60 by hand"
+            wrong.append(f"{place[0]}:{number}: {place[1]} {made_by}: {place[2]}")
     return wrong + [f"{LIST}: not in the code: {' | '.join(place)}" for place in left.elements()]
 
 
@@ -182,7 +190,7 @@ def main(tree):
     for line in wrong:
         print(line)
     if not wrong:
-        print(f"60 is made by hand in {sum(1 for _ in listed(tree))} lines, each in {LIST}")
+        print(f"60 can be made in {sum(1 for _ in listed(tree))} lines, each in {LIST}")
     return 1 if wrong else 0
 
 

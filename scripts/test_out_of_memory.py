@@ -64,6 +64,16 @@ PUT = [
     "Fault::OutOfMemory { sent: 0 }",
     "Err(DeviceFault)",
 ]
+# Lines that ask for memory in `put`.
+SIZES = [
+    "self.octets.reserve(usize::MAX / 4)?;",
+    "self.octets.try_reserve_exact(octet)?;",
+    "self.octets.resize(octet, 0)?;",
+    "let octets = Vec::with_capacity(alloc, octet)?;",
+    "let map = IndexMap::with_capacity_and_hasher(alloc, octet, hasher)?;",
+    "let octets = vec![in alloc; 0; octet]?;",
+    "piece.repeat(alloc, octet)?;",
+]
 # What is said of code that has the last text in place of the one before.
 REFUSED = [
     ("put makes 60 by hand", "push(octet)?", "push(octet).map_err(|_| AllocError)?"),
@@ -99,6 +109,7 @@ class OutOfMemory(unittest.TestCase):
     def test_lines_that_make_60_are_found(self):
         start = "        Ok(self.octets"
         added = [(f"put makes 60 by hand: {it}", start, f"        {it}\n{start}") for it in PUT]
+        added += [(f"put asks for memory: {it}", start, f"        {it}\n{start}") for it in SIZES]
         for said, old, new in [*added, *REFUSED]:
             with self.subTest(new):
                 found = self.differences(old, new)

@@ -6,9 +6,8 @@ use Rattle.plist_forms.specs.declared.faults.Fault.{Fault}
 use Rattle.plist_forms.specs.declared.faults.Fault.TheVariants.{InputTooLarge, OutOfMemory, ReadFailed}
 use Rattle.plist_forms.specs.declared.loading.TheConstants.{MAX_INPUT}
 use Rattle.plist_write.specs.declared.faults.WriteFault.{WriteFault}
-use Rattle.plist_write.proofs.Going.{less_within}
 use Rattle.plist_write.specs.Sending.{IsBlamed, sent_of}
-use Rattle.plist_convert.specs.Files.{FileName, Files, FileHolds, IsCutAt, IsStored, IsUnloaded, Lacks, SameBeside, SameFiles, Turns}
+use Rattle.plist_convert.specs.Files.{FileName, Files, FileHolds, IsStored, IsUnloaded, Lacks, SameBeside, SameFiles, Turns}
 
 -- a change from the files in between is a change from those before
 turns_before : (P Q : Files → Files → Type 0)
@@ -55,12 +54,6 @@ front_from : (path : FileName) (octets : List ℕ) (sent : ℕ) (old mid new : F
 front_from path octets sent old mid new same (inl none) = inl (none.0, none.1 ∙ same path)
 front_from path octets sent old mid new same (inr some) = inr some
 
-cut_before : (f m : Option Files) (octets : List ℕ) (sent : ℕ) → SameFiles f m → IsCutAt m octets sent → IsCutAt f octets sent
-cut_before None None octets sent same cut = cut
-cut_before None (Some mid) octets sent same cut = less_within sent (length octets) cut
-cut_before (Some old) None octets sent same cut = absurd same
-cut_before (Some old) (Some mid) octets sent same cut = cut
-
 others_before : (f m n : Option Files) (path : FileName) → SameFiles f m → SameBeside path m n → SameBeside path f n
 others_before f m n path =
     turns_before (λ old new. (other : FileName) → other ≢ path → new other ≡ old other) (λ old new. (other : FileName) → other ≢ path → new other ≡ old other)
@@ -79,7 +72,7 @@ stored_before f m n before middle after path octets (Err fault) same e s = recor
   others = others_before f m n path same s.others;
   count = tt;
   whole = tt;
-  within = cut_before f m octets (sent_of fault) same s.within;
+  within = s.within;
   front = (
     turns_before (IsFrontAt path octets (sent_of fault)) (IsFrontAt path octets (sent_of fault)) (front_from path octets (sent_of fault)) f m n same s.front.0,
     subst (λ (n : ℕ). IsBlamed fault n after) e s.front.1,

@@ -61,21 +61,20 @@ module _ (form : Form) (octets : List ℕ) (limit failures : ℕ) where
   full_now (Some taken) n within full writes = full_at taken n within full writes
 
   -- a store fails only if the file is full, unless memory ran out
-  pub is_full : (files : Option Files) (contents : Option (Option (List ℕ))) (sent : Result ℕ Fault) (is_kept needs_memory : Bool)
-      → (is_kept ≡ false → files ≡ None) → IsWithin limit (held_by files contents)
+  pub is_full : (files : Option Files) (contents : Option (Option (List ℕ))) (sent : Result ℕ Fault) (needs_memory : Bool)
+      → IsWithin limit (held_by files contents)
       → (0 < failures → needs_memory ≡ false → IsFilled limit (held_by files contents))
       → Writes form octets (held_by files None) (held_by files contents) 0 failures sent
-      → IfErr (result_of sent is_kept needs_memory) (λ fault. IfSome files (λ _. IsFullAt form octets limit fault))
-  is_full None contents sent is_kept needs_memory unknown within full writes = untold (result_of sent is_kept needs_memory) where
+      → IfErr (result_of sent needs_memory) (λ fault. IfSome files (λ _. IsFullAt form octets limit fault))
+  is_full None contents sent needs_memory within full writes = untold (result_of sent needs_memory) where
     untold : (told : Result ℕ Fault) → IfErr told (λ _. ⊤)
     untold (Ok n) = tt
     untold (Err fault) = tt
-  is_full (Some at) contents (Ok n) true needs_memory unknown within full writes = tt
-  is_full (Some at) contents (Ok n) false needs_memory unknown within full writes = absurd (let no = unknown refl in cc)
-  is_full (Some at) contents (Err (WriteFailed n)) is_kept true unknown within full writes = tt
-  is_full (Some at) contents (Err (WriteFailed n)) is_kept false unknown within full writes =
+  is_full (Some at) contents (Ok n) needs_memory within full writes = tt
+  is_full (Some at) contents (Err (WriteFailed n)) true within full writes = tt
+  is_full (Some at) contents (Err (WriteFailed n)) false within full writes =
       full_now (held_by (Some at) contents) n within (λ failed. full failed refl) writes
-  is_full (Some at) contents (Err _) is_kept needs_memory unknown within full writes = tt
+  is_full (Some at) contents (Err _) needs_memory within full writes = tt
 
   -- all of it was within the maximum size
   found_room : (taken output : List ℕ) (n : ℕ) (sent : Result ℕ WriteFault) → length taken ≤ limit
@@ -92,18 +91,17 @@ module _ (form : Form) (octets : List ℕ) (limit failures : ℕ) where
   fits_now (Some taken) n within (inl unsent) = absurd (let is = unsent.is in cc)
   fits_now (Some taken) n within (inr goes) = found_room taken goes.output n goes.sent within goes.written goes.is
 
-  pub fits : (files : Option Files) (contents : Option (Option (List ℕ))) (sent : Result ℕ Fault) (is_kept needs_memory : Bool)
+  pub fits : (files : Option Files) (contents : Option (Option (List ℕ))) (sent : Result ℕ Fault) (needs_memory : Bool)
       → IsWithin limit (held_by files contents) → Writes form octets (held_by files None) (held_by files contents) 0 failures sent
-      → IfOk (result_of sent is_kept needs_memory) (λ count. IfSome files (λ _. count ≤ limit))
-  fits None contents sent is_kept needs_memory within writes = untold (result_of sent is_kept needs_memory) where
+      → IfOk (result_of sent needs_memory) (λ count. IfSome files (λ _. count ≤ limit))
+  fits None contents sent needs_memory within writes = untold (result_of sent needs_memory) where
     untold : (told : Result ℕ Fault) → IfOk told (λ _. ⊤)
     untold (Ok n) = tt
     untold (Err fault) = tt
-  fits (Some at) contents (Ok n) true needs_memory within writes = fits_now (held_by (Some at) contents) n within writes
-  fits (Some at) contents (Ok n) false needs_memory within writes = tt
-  fits (Some at) contents (Err (WriteFailed n)) is_kept true within writes = tt
-  fits (Some at) contents (Err (WriteFailed n)) is_kept false within writes = tt
-  fits (Some at) contents (Err _) is_kept needs_memory within writes = tt
+  fits (Some at) contents (Ok n) needs_memory within writes = fits_now (held_by (Some at) contents) n within writes
+  fits (Some at) contents (Err (WriteFailed n)) true within writes = tt
+  fits (Some at) contents (Err (WriteFailed n)) false within writes = tt
+  fits (Some at) contents (Err _) needs_memory within writes = tt
 
 -- no more was written than a file may have, by what is known of the files before the file was created
 pub within_before : (path : FileName) (f m : Option Files) (limit place : ℕ) (contents : Option (List ℕ)) → MayEmpty path f m → limit ≡ place

@@ -21,12 +21,11 @@ use Rattle.plist_forms.specs.declared.forms.Form.{Form}
 use Rattle.plist_forms.specs.declared.forms.Form.TheVariants.{Binary1, OpenStep}
 use Rattle.plist_value.specs.Writable.{is_writable}
 use Rattle.ostep_text.specs.Written.{written}
-use Rattle.plist_convert.specs.Files.{CountsFailure, FileName, Files, HoldsFront, IsCutAt, IsStored, SameBeside, SameFiles, Stores, Turns}
+use Rattle.plist_convert.specs.Files.{CountsFailure, FileName, Files, HoldsFront, IsStored, SameBeside, SameFiles, Stores, Turns}
 use Rattle.plist_convert.specs.FileDisk.{result_of}
 use Rattle.plist_convert.specs.Opens.{IsUntouched, MayEmpty, Settles, held_by, is_begun, taken_by, written_of}
 use Rattle.plist_convert.specs.declared.opens.Created.{Created}
 use Rattle.plist_convert.proofs.FilesBefore.{same_trans}
-use Rattle.plist_convert.proofs.Limits.{unknown_before}
 
 -- no output is empty
 ends_some : (xs : List ℕ) (y : ℕ) → xs ++ (y ∷ []) ≢ []
@@ -81,7 +80,7 @@ Leaves path (Some taken) (Some old) (Some new) =
     × ((other : FileName) → other ≢ path → new other ≡ old other)
 
 -- so it is if the file was closed
-settled : {W : Type 0} (writes : W → Option (List ℕ)) (path : FileName) (files middle rest : Option Files) (made : Option (Created W))
+pub settled : {W : Type 0} (writes : W → Option (List ℕ)) (path : FileName) (files middle rest : Option Files) (made : Option (Created W))
     → ForSome made (λ file. file.path.now ≡ path) → is_begun files (option_map (written_of writes) made) ≡ true → MayEmpty path files middle
     → Settles writes made middle rest → Leaves path (taken_by writes files made) files rest
 settled writes path None middle rest made there begun may settles = tt
@@ -99,19 +98,10 @@ settled writes path (Some old) (Some mid) (Some new) (Some file) there begun may
       has None begun puts = absurd (let no = begun in cc)
       has (Some octets) begun puts = (inl puts.0, λ other beside. puts.1 other beside ∙ may.1 other beside)
 
-pub left : {W : Type 0} (writes : W → Option (List ℕ)) (path : FileName) (files middle rest : Option Files) (made : Option (Created W))
-    (is_kept : Bool) → ForSome made (λ file. file.path.now ≡ path) → is_begun files (option_map (written_of writes) made) ≡ true
-    → MayEmpty path files middle → (is_kept ≡ true → Settles writes made middle rest) → (is_kept ≡ false → middle ≡ None)
-    → Leaves path (taken_by writes files made) files rest
-left writes path files middle rest made true there begun may settles lost = settled writes path files middle rest made there begun may (settles refl)
-left writes path files middle rest made false there begun may settles lost =
-    rw (unknown_before path files middle may (lost refl)) tt
-
 -- no file changes if none is closed
-pub unsettled : {W : Type 0} (writes : W → Option (List ℕ)) (middle rest : Option Files) (made : Option (Created W)) (is_kept : Bool)
-    → (is_kept ≡ true → Settles writes made middle rest) → (is_kept ≡ false → middle ≡ None) → made ≡ None → SameFiles middle rest
-unsettled writes middle rest made true settles lost none = rw none at (settles refl)
-unsettled writes middle rest made false settles lost none = rw (lost refl) tt
+pub unsettled : {W : Type 0} (writes : W → Option (List ℕ)) (middle rest : Option Files) (made : Option (Created W))
+    → Settles writes made middle rest → made ≡ None → SameFiles middle rest
+unsettled writes middle rest made settles none = rw none at settles
 
 -- if nothing was written, the file was not created
 pub unmade : {W : Type 0} (writes : W → Option (List ℕ)) (files : Option Files) (made : Option (Created W))
@@ -159,17 +149,6 @@ beside path (Some old) (Some new) (Some taken) leaves = leaves.1
 beside path (Some old) (Some new) None leaves = absurd leaves
 beside path (Some old) None taken leaves = absurd leaves
 
-cut_at : (files : Option Files) (output : List ℕ) (n : ℕ) → n < length output → IsCutAt files output n
-cut_at None output n short = less_within n (length output) short
-cut_at (Some at) output n short = short
-
--- a file whose device failed when it was closed
-lost : (path : FileName) (files rest : Option Files) (output : List ℕ) (n before after : ℕ) → files ≡ None → n ≡ length output
-    → IsBlamed (write.WriteFailed n) before after → IsStored files rest before after path output (Err (write.WriteFailed n))
-lost path None rest output n before after unknown whole counts =
-    record { others = tt; count = tt; whole = tt; within = omega (arith, whole); front = (tt, counts) }
-lost path (Some at) rest output n before after unknown whole counts = absurd cc
-
 -- a file that may only have been emptied, after out of memory
 emptied : (path : FileName) (files rest : Option Files) (before after : ℕ) (output : List ℕ) → MayEmpty path files rest → 0 < length output
     → after ≡ before → IsStored files rest before after path output (Err (write.OutOfMemory 0))
@@ -177,7 +156,7 @@ emptied path files rest before after output may short unfailed = record {
   others = others files rest may;
   count = tt;
   whole = tt;
-  within = cut_at files output 0 short;
+  within = short;
   front = (front files rest may, unfailed);
 } where
   others : (files rest : Option Files) → MayEmpty path files rest → SameBeside path files rest
@@ -195,14 +174,14 @@ emptied path files rest before after output may short unfailed = record {
 
 module _ (form : Form) (octets : List ℕ) (path : FileName) (files rest : Option Files) (before after : ℕ) where
   -- the bytes are refused
-  unstored : (fault : Fault) (is_kept needs_memory : Bool) → IsOutputFault form octets fault → SameFiles files rest
-      → CountsFailure before after (result_of (Err fault) is_kept needs_memory)
-      → Stores form octets files rest before after path (result_of (Err fault) is_kept needs_memory)
-  unstored (WriteFailed sent) is_kept needs_memory (inl refused) kept counts = absurd refused.stands
-  unstored (WriteFailed sent) is_kept needs_memory (inr none) kept counts = absurd (let is = none.is in cc)
-  unstored ReadFailed is_kept needs_memory (inl refused) kept counts = absurd refused.stands
-  unstored ReadFailed is_kept needs_memory (inr none) kept counts = absurd (let is = none.is in cc)
-  unstored fault is_kept needs_memory cause kept counts =
+  unstored : (fault : Fault) (needs_memory : Bool) → IsOutputFault form octets fault → SameFiles files rest
+      → CountsFailure before after (result_of (Err fault) needs_memory)
+      → Stores form octets files rest before after path (result_of (Err fault) needs_memory)
+  unstored (WriteFailed sent) needs_memory (inl refused) kept counts = absurd refused.stands
+  unstored (WriteFailed sent) needs_memory (inr none) kept counts = absurd (let is = none.is in cc)
+  unstored ReadFailed needs_memory (inl refused) kept counts = absurd refused.stands
+  unstored ReadFailed needs_memory (inr none) kept counts = absurd (let is = none.is in cc)
+  unstored fault needs_memory cause kept counts =
       inl (record { fault = fault; is = refl; cause = cause; kept = kept; unfailed = counts })
 
   -- the output is cut
@@ -218,17 +197,17 @@ module _ (form : Form) (octets : List ℕ) (path : FileName) (files rest : Optio
       others = beside path files rest taken leaves;
       count = tt;
       whole = tt;
-      within = rw same (cut_at files output (sent_of fault) written.within);
+      within = rw same written.within;
       front = (rw same (fronted path files rest taken output (sent_of fault) written.within leaves written.front.0), blamed);
     };
   })
 
   -- the output is sent
-  sent : (output : List ℕ) (taken : Option (List ℕ)) (failures : ℕ) (result : Result ℕ WriteFault) (is_kept needs_memory : Bool)
-      → IsOutput form octets output → (is_kept ≡ false → files ≡ None) → Leaves path taken files rest
-      → IsWritten output (held_by files None) taken 0 failures result → CountsFailure before after (result_of (answer_of result) is_kept needs_memory)
-      → Stores form octets files rest before after path (result_of (answer_of result) is_kept needs_memory)
-  sent output taken failures (Ok n) true needs_memory of unknown leaves written counts = inr (record {
+  sent : (output : List ℕ) (taken : Option (List ℕ)) (failures : ℕ) (result : Result ℕ WriteFault) (needs_memory : Bool)
+      → IsOutput form octets output → Leaves path taken files rest
+      → IsWritten output (held_by files None) taken 0 failures result → CountsFailure before after (result_of (answer_of result) needs_memory)
+      → Stores form octets files rest before after path (result_of (answer_of result) needs_memory)
+  sent output taken failures (Ok n) needs_memory of leaves written counts = inr (record {
     output = output;
     of = of;
     sent = Ok n;
@@ -241,35 +220,28 @@ module _ (form : Form) (octets : List ℕ) (path : FileName) (files rest : Optio
       front = tt;
     };
   })
-  sent output taken failures (Ok n) false needs_memory of unknown leaves written counts = inr (record {
-    output = output;
-    of = of;
-    sent = Err (write.WriteFailed n);
-    is = refl;
-    stored = lost path files rest output n before after (unknown refl) written.count counts;
-  })
-  sent output taken failures (Err (write.WriteFailed n)) is_kept true of unknown leaves written counts =
+  sent output taken failures (Err (write.WriteFailed n)) true of leaves written counts =
       cut output taken failures (write.WriteFailed n) (write.OutOfMemory n) of leaves written refl counts
-  sent output taken failures (Err (write.WriteFailed n)) is_kept false of unknown leaves written counts =
+  sent output taken failures (Err (write.WriteFailed n)) false of leaves written counts =
       cut output taken failures (write.WriteFailed n) (write.WriteFailed n) of leaves written refl counts
-  sent output taken failures (Err (write.OutOfMemory n)) is_kept needs_memory of unknown leaves written counts =
+  sent output taken failures (Err (write.OutOfMemory n)) needs_memory of leaves written counts =
       cut output taken failures (write.OutOfMemory n) (write.OutOfMemory n) of leaves written refl counts
 
-  pub closed : (taken : Option (List ℕ)) (failures : ℕ) (result : Result ℕ Fault) (is_kept needs_memory : Bool) → (is_kept ≡ false → files ≡ None)
+  pub closed : (taken : Option (List ℕ)) (failures : ℕ) (result : Result ℕ Fault) (needs_memory : Bool)
       → Leaves path taken files rest → (taken ≡ held_by files None → failures ≡ 0 → SameFiles files rest)
-      → Writes form octets (held_by files None) taken 0 failures result → CountsFailure before after (result_of result is_kept needs_memory)
-      → Stores form octets files rest before after path (result_of result is_kept needs_memory)
-  closed taken failures result is_kept needs_memory unknown leaves same (inl unsent) counts =
-      rw unsent.is (unstored unsent.fault is_kept needs_memory unsent.cause (same unsent.nothing unsent.unfailed) (rw unsent.is at counts))
-  closed taken failures result is_kept needs_memory unknown leaves same (inr goes) counts =
-      rw goes.is (sent goes.output taken failures goes.sent is_kept needs_memory goes.of unknown leaves goes.written (rw goes.is at counts))
+      → Writes form octets (held_by files None) taken 0 failures result → CountsFailure before after (result_of result needs_memory)
+      → Stores form octets files rest before after path (result_of result needs_memory)
+  closed taken failures result needs_memory leaves same (inl unsent) counts =
+      rw unsent.is (unstored unsent.fault needs_memory unsent.cause (same unsent.nothing unsent.unfailed) (rw unsent.is at counts))
+  closed taken failures result needs_memory leaves same (inr goes) counts =
+      rw goes.is (sent goes.output taken failures goes.sent needs_memory goes.of leaves goes.written (rw goes.is at counts))
 
   -- out of memory to close the file
   pub unclosed : (taken : Option (List ℕ)) (failures : ℕ) (result : Result ℕ Fault) → MayEmpty path files rest
       → (taken ≡ held_by files None → failures ≡ 0 → SameFiles files rest) → Writes form octets (held_by files None) taken 0 failures result
       → after ≡ before → Stores form octets files rest before after path (Err (OutOfMemory 0))
   unclosed taken failures result may same (inl unsent) unfailed =
-      unstored (OutOfMemory 0) true true (inl (record { stands = refl; none = λ other v accepted. other refl })) (same unsent.nothing unsent.unfailed) unfailed
+      unstored (OutOfMemory 0) true (inl (record { stands = refl; none = λ other v accepted. other refl })) (same unsent.nothing unsent.unfailed) unfailed
   unclosed taken failures result may same (inr goes) unfailed =
       let short = output_long goes.output (output_some form octets goes.output goes.of) in
       inr (record {

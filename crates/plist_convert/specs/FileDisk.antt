@@ -1,5 +1,5 @@
 -- What contracts know of a `FileDisk`.
-use Rattle.std.specs.Prelude.{◌≡◌, ℕ, ◌<◌, Bool, true, false, List, length, Ok, Option, Result, Err}
+use Rattle.std.specs.Prelude.{◌≡◌, ℕ, ◌<◌, Bool, true, List, length, Option, Result, Err}
 use Rattle.plist_forms.specs.declared.faults.Fault.{Fault}
 use Rattle.plist_forms.specs.declared.faults.Fault.TheVariants.{OutOfMemory, WriteFailed}
 use Rattle.plist_forms.specs.declared.forms.Form.{Form}
@@ -32,9 +32,7 @@ abbrev pub IsFullAt : Form → List ℕ → ℕ → Fault → Type 0
 IsFullAt form octets limit (WriteFailed sent) = IsFull form octets limit sent
 IsFullAt form octets limit _ = Unit {0}
 
--- The result of a store whose file was closed: what was lost then was not written, and a device
--- that ran out of memory is 60 in place of 51.
-abbrev pub result_of : Result ℕ Fault → (is_kept needs_memory : Bool) → Result ℕ Fault
-result_of (Ok sent) false _ = Err (WriteFailed sent)
-result_of (Err (WriteFailed sent)) _ true = Err (OutOfMemory sent)
-result_of sent _ _ = sent
+-- the result of a store: a device that ran out of memory is 60 in place of 51
+abbrev pub result_of : Result ℕ Fault → (needs_memory : Bool) → Result ℕ Fault
+result_of (Err (WriteFailed sent)) true = Err (OutOfMemory sent)
+result_of sent _ = sent

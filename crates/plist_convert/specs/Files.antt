@@ -1,5 +1,5 @@
 -- The contents of files, and how loading and storing change them.
-use Rattle.std.specs.Prelude.{◌≡◌, ◌≢◌, ◌⊎◌, ⊤, ℕ, ◌<◌, ◌≤◌, List, length, take, None, Option, Some}
+use Rattle.std.specs.Prelude.{◌≡◌, ◌≢◌, ◌⊎◌, ⊤, ℕ, ◌<◌, List, length, take, None, Option, Some}
 use Rattle.std.specs.Prelude.{Result, Err, IfErr, IfOk, IfSome, OnOk}
 use Rattle.plist_devices.specs.Count.{one_more}
 use Rattle.plist_forms.specs.declared.faults.Fault.{Fault}
@@ -68,12 +68,6 @@ HoldsFront before after path octets sent =
     Turns before after (λ old new. ((sent ≡ 0) × (new path ≡ old path))
     ⊎ (new path ≡ Some (take sent octets)))
 
--- Not all of the bytes were sent. If the disk does not know its files, it may be all: then the
--- device failed when the file was closed.
-abbrev pub IsCutAt : Option Files → List ℕ → ℕ → Type 0
-IsCutAt None octets sent = sent ≤ length octets
-IsCutAt (Some at) octets sent = sent < length octets
-
 -- Storing: the files and the count of failures, before and after, the path, the bytes, and the
 -- result. The path then has all of the bytes, or as many as the refusal states.
 pub record IsStored (files rest : Option Files) (before after : ℕ) (path : FileName)
@@ -81,7 +75,7 @@ pub record IsStored (files rest : Option Files) (before after : ℕ) (path : Fil
   pub others : SameBeside path files rest
   pub count : IfOk result (λ sent. (sent ≡ length octets) × (after ≡ before))
   pub whole : IfOk result (λ _. Turns files rest (λ old new. new path ≡ Some octets))
-  pub within : IfErr result (λ fault. IsCutAt files octets (sent_of fault))
+  pub within : IfErr result (λ fault. sent_of fault < length octets)
   pub front : IfErr result (λ fault. HoldsFront files rest path octets (sent_of fault)
       × IsBlamed fault before after)
 

@@ -51,10 +51,10 @@ pub fn run<R: Files, I: Read, O: Write>(
     run_on_host(alloc, &mut disk, words, input, output)
 }
 
-/// Like [`run`], but hashes scalars with a [`RandomState`](std::hash::RandomState) that is created
-/// once, so that nobody can choose scalars that collide. Its keys are random bytes from the system,
-/// or from `/dev/urandom`; without either it uses the fixed hasher. The results are equal to those
-/// of [`run`]. `main` calls this function.
+/// Runs the complete program with random keys for the hashes of scalars, so that nobody can choose
+/// scalars that collide; otherwise like [`run`], with equal results. The keys are those of one
+/// [`RandomState`](std::hash::RandomState): random bytes from the system, or from `/dev/urandom`.
+/// Without either the fixed hasher is used. `main` calls this function.
 pub fn run_to_end<R: Files + RandomSource, I: Read, O: Write>(
     rt: &R,
     alloc: Global,

@@ -1,6 +1,6 @@
 //! Loads and stores files.
-ghost use Rattle.std.specs.Prelude.{◌≡◌, ◌≤◌, false, IfErr, IfOk, IfSome, None, OnErr, OnOk};
-ghost use Rattle.std.specs.Prelude.{IsErrOf, IsTrue, ℕ};
+ghost use Rattle.std.specs.Prelude.{◌≡◌, ◌≤◌, IfErr, IfOk, IfSome, None, OnErr, OnOk};
+ghost use Rattle.std.specs.Prelude.{IsErrOf, ℕ};
 ghost use Rattle.plist_forms.specs.Load.{octets_or};
 ghost use Rattle.plist_convert.specs.FileDisk.{IsFullAt, result_of};
 ghost use Rattle.plist_convert.specs.Files.{CountsFailure, FileHolds, LoadsFile, SameFiles, Stores};
@@ -212,36 +212,32 @@ fn write_target<O: Opens, H: BuildHasher + Copy, K: KnownTarget>(
         needs_memory,
         ..
     } = file;
-    let is_kept = close(opener, alloc, created)?;
-    told(sent, is_kept, needs_memory)
+    close(opener, alloc, created)?;
+    told(sent, needs_memory)
 }
 
-// Closes the file, if it was created, and returns whether it contains what was written. If out of
-// memory, no file changes.
+// Closes the file, if it was created. If out of memory, no file changes.
 fn close<O: Opens>(
     opener: &mut O,
     alloc: Global,
     created: Option<Created<'_, O::Writer>>,
-) -> Result<bool, AllocError>
-    ensures settles { IfOk result (λ is_kept. IsTrue is_kept →
+) -> Result<(), AllocError>
+    ensures settles { IfOk result (λ _.
         Settles O.Writer.contents created.entry (O.files opener.old) (O.files opener.new)) }
-    ensures lost { IfOk result (λ is_kept. is_kept ≡ false → O.files opener.old ≡ None) }
     ensures unchanged { OnErr result (SameFiles (O.files opener.old) (O.files opener.new)) }
     ensures limit { O.limit opener.new ≡ O.limit opener.old }
 {
     match created {
         Some(created) => opener.keep(alloc, created),
-        None => Ok(true),
+        None => Ok(()),
     }
 }
 
-// Returns the result of a store whose file was closed: what is lost then was not written, and if
-// memory ran out for the file, the device has not failed.
-fn told(sent: Result<u64, Fault>, is_kept: bool, needs_memory: bool) -> Result<u64, Fault>
-    ensures { result ≡ result_of sent is_kept needs_memory }
+// Returns the result of a store: if memory ran out for the file, the device has not failed.
+fn told(sent: Result<u64, Fault>, needs_memory: bool) -> Result<u64, Fault>
+    ensures { result ≡ result_of sent needs_memory }
 {
     match sent {
-        Ok(sent) if !is_kept => Err(Fault::WriteFailed { sent }),
         Err(Fault::WriteFailed { sent }) if needs_memory => Err(Fault::OutOfMemory { sent }),
         _ => sent,
     }

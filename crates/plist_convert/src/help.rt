@@ -6,12 +6,11 @@ pub(crate) const ABOUT: &str = "Converts Apple property lists to their canonical
 // The program without a command, its messages and its exit statuses.
 pub(crate) const AFTER: &str = "\
 Reads binary property lists (bplist00) and OpenStep texts. Make XML binary with:
-  plistconv-canonicalise --from-xml - < IN > OUT
+  plistconv-canonicalise --from-xml -o OUT IN
   plistutil -i IN -f bin -o OUT  (macOS: plutil -convert binary1 -o OUT IN)
 
 Without a command, converts standard input to standard output. If the input is
-refused, one line that says so is written in place of the file:
-  plistconv < Info.plist > OUT || rm OUT
+refused, one line that says so is written in place of the file.
 
 All messages are on standard output, usage errors too: only 0 and 1 are answers.
 Exit status: 0 done, equal, accepted or canonical; 1 different or not canonical;
@@ -71,7 +70,7 @@ get a line each, in the order given, and the greatest of their exit statuses.
 
 XML is refused with 21. Each of these makes it binary; always use the same one,
 since they write reals differently, in 4 bytes or in 8. The last is for macOS:
-  plistconv-canonicalise --from-xml - < IN > OUT
+  plistconv-canonicalise --from-xml -o OUT IN
   plistutil -i IN -f bin -o OUT
   plutil -convert binary1 -o OUT IN
 
@@ -127,7 +126,7 @@ says what is refused, where, and why.
 
 Two values print the same if and only if they are equal, so a comparison of two
 prints shows all that differs:
-  plistconv print A > a && plistconv print B > b && diff -u a b
+  plistconv-diff A B
 
 Messages are on standard output, usage errors too: only 0 means a whole print.
 

@@ -1,6 +1,6 @@
 //! The files of the host.
-ghost use Rattle.std.specs.Prelude.{◌≡◌, false, IfOk, IsTrue, None, OnErr, Option};
-ghost use Rattle.plist_convert.specs.Files.{Files, SameFiles};
+ghost use Rattle.std.specs.Prelude.{◌≡◌, IfOk, None, OnErr};
+ghost use Rattle.plist_convert.specs.Files.{SameFiles};
 ghost use Rattle.plist_convert.specs.Opens.{Puts};
 
 use crate::file_disk::FileDisk;
@@ -8,7 +8,6 @@ use crate::opens::{Created, Opens, Steady};
 use plist_devices::ReaderSource;
 use plist_value::FixedHasher;
 use std::alloc::{AllocError, Global};
-use std::fs::OpenFile;
 use std::hash::BuildHasher;
 use std::io::{ErrorKind, Write};
 use std::rt::Files;
@@ -55,23 +54,14 @@ impl<'a, R: Files> Opens for HostFiles<'a, R> {
         }
     }
 
-    fn keep(&mut self, _alloc: Global, created: Created<'_, R::File>) -> Result<bool, AllocError>
-        ensures kept { IfOk result (λ is_kept. IsTrue is_kept → Puts created.entry.path.now
+    fn keep(&mut self, _alloc: Global, created: Created<'_, R::File>) -> Result<(), AllocError>
+        ensures kept { IfOk result (λ _. Puts created.entry.path.now
             (R.File.contents created.entry.writer) None None) }
-        ensures lost { IfOk result (λ is_kept. is_kept ≡ false → ◌≡◌ {A = Option Files} None None) }
         ensures unchanged { OnErr result (SameFiles None None) }
     {
-        // The library tells what a host could not store only if its data is synchronised.
-        match created.writer.sync_data() {
-            Ok(()) => Ok(true),
-            Err(error) => Ok(!loses_data(error.kind())),
-        }
+        drop(created);
+        Ok(())
     }
-}
-
-// Returns whether data is lost with this error. Pipes and most devices cannot be synchronised.
-fn loses_data(kind: ErrorKind) -> bool {
-    !matches!(kind, ErrorKind::InvalidInput | ErrorKind::Unsupported)
 }
 
 impl<R: Files> Steady for HostFiles<'_, R> {

@@ -1,7 +1,6 @@
 //! Opens files by path.
-ghost use Rattle.std.specs.Prelude.{◌≡◌, ◌<◌, ℕ, [], IfErr, IfOk, IfSome, IsTrue, None, OnErr};
-ghost use Rattle.std.specs.Prelude.{Option, Some};
-ghost use Rattle.std.specs.Prelude.{false, length};
+ghost use Rattle.std.specs.Prelude.{◌≡◌, ◌<◌, ℕ, [], IfErr, IfOk, IfSome, OnErr};
+ghost use Rattle.std.specs.Prelude.{Option, Some, length};
 ghost use Rattle.std.specs.Io.{WritesAtMost};
 ghost use Rattle.std.specs.Io.KnownBytes.{WriteAppends};
 ghost use Rattle.plist_convert.specs.Files.{Files, SameFiles};
@@ -70,17 +69,12 @@ pub trait Opens {
             ReachesLimit (files self.now) (limit self.now) (Self.Writer.contents writer.old)) }
         ensures memory { IfErr result (NeedsMemory (files self.now)) };
 
-    /// Closes the file and returns whether it contains what its writer wrote. It does if the opener
-    /// knows the files; otherwise its device may have failed. If out of memory, no file changes.
-    fn keep(
-        &mut self,
-        alloc: Global,
-        created: Created<'_, Self::Writer>,
-    ) -> Result<bool, AllocError>
-        ensures kept { IfOk result (λ is_kept. IsTrue is_kept →
+    /// Closes the file, which then contains what its writer wrote. If out of memory, no file
+    /// changes.
+    fn keep(&mut self, alloc: Global, created: Created<'_, Self::Writer>) -> Result<(), AllocError>
+        ensures kept { IfOk result (λ _.
             Puts created.entry.path.now (Self.Writer.contents created.entry.writer)
             (files self.old) (files self.new)) }
-        ensures lost { IfOk result (λ is_kept. is_kept ≡ false → files self.old ≡ None) }
         ensures unchanged { OnErr result (SameFiles (files self.old) (files self.new)) }
         ensures limit { limit self.new ≡ limit self.old };
 }

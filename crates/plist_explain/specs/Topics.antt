@@ -3,6 +3,7 @@ use Rattle.std.specs.Prelude.{◌≡◌, ◌<◌, ℕ, Bool, List, [], ◌∷◌
 use Rattle.std.specs.Prelude.{codes, find, flat_map, if◌then◌else◌, map, option_map, unwrap_or}
 use Rattle.std.specs.Borrow.{Bor}
 use Rattle.std.specs.Char.{is_ascii_whitespace}
+use Rattle.std.specs.Io.BufRead.{strip_last}
 use Rattle.std.specs.Option.{option_or}
 use Rattle.std.specs.Str.{bytes_eq, str_eq_ignore_ascii_case, str_to_ascii_lowercase}
 use Rattle.std.specs.Fmt.{decimal}
@@ -36,12 +37,18 @@ rule_entries =
 abbrev pub entries : List Entry
 entries = refusal_entries ++ rule_entries
 
--- the word is the refusal's name, in any case, or its number; or `C` or `c` and the rule's number
+-- a word without the colon at its end, if it has one
+abbrev pub without_colon : List ℕ → List ℕ
+without_colon = strip_last 58
+
+-- the word is the refusal's name, in any case, or its number; or `C` or `c` and the rule's number,
+-- perhaps with the colon that follows them in the list
 abbrev pub is_named : Subject → List ℕ → Bool
 is_named (subject.Refusal refusal) word =
     str_eq_ignore_ascii_case word (name_of refusal) || bytes_eq word (decimal (number_of refusal))
 is_named (subject.Rule rule) word =
-    bytes_eq word (codes "C" ++ decimal rule) || bytes_eq word (codes "c" ++ decimal rule)
+    bytes_eq (without_colon word) (codes "C" ++ decimal rule)
+    || bytes_eq (without_colon word) (codes "c" ++ decimal rule)
 
 -- the first entry that a word names
 abbrev pub entry_named : List ℕ → Option Entry
@@ -122,6 +129,11 @@ ExplainsRefusals = (refusal : Refusal) → Names (name_of refusal) (subject.Refu
 abbrev pub ExplainsRules : Type 0
 ExplainsRules = (rule : ℕ) → rule < 8 → Names (codes "C" ++ decimal rule) (subject.Rule rule)
     × Names (codes "c" ++ decimal rule) (subject.Rule rule)
+
+-- each line of the list names its subject
+abbrev pub ExplainsLines : Type 0
+ExplainsLines =
+    map (λ entry. subject_named (line_of entry)) entries ≡ map (λ entry. Some entry.subject) entries
 
 -- the line that is printed for a refusal, with any path or without one, names that refusal
 abbrev pub ExplainsReports : Type 0

@@ -34,10 +34,10 @@ the top, and where the table of their offsets is. Here this does not fit the
 length of the file, for example because bytes are missing at the end or were
 added there. Fetch the file again; a transfer as text damages it. So does git
 if .gitattributes has `*.plist text` or eol=crlf, which change line ends. Write
-`*.plist -text` there, and check the file out again:
-  rm FILE && git checkout FILE
-If this is refused too, git changed the file when it was added, and its blob is
-damaged: take the file from where it was made, and add it again.",
+`*.plist -text` there. This tells whether the copy of git is whole:
+  git show HEAD:./FILE | plistconv lint /dev/stdin
+If it is, check the file out again. If it is not, git changed the file when it
+was added: take the file from where it was made, and add it again.",
     ),
     (
         Subject::Refusal(Refusal::BadOffset),
@@ -180,15 +180,15 @@ Keep long data in files of their own, and write the names of these files.",
 A text is read as UTF-8, or as UTF-16 if it begins with a byte order mark. At
 the byte named there is no character of UTF-8. A picture, a zip archive, or any
 other file that is no property list, is refused like this too. If it was made
-by gzip:
-  gunzip < FILE > OUT
+by gzip, this shows what is in it:
+  gunzip < FILE | plistconv print /dev/stdin
 If it begins with <?xml, it is XML in another encoding, which its first line
 names. iconv leaves that line as it is, so that letters go wrong later. Use
-  plistconv-canonicalise --from-xml - < FILE > OUT
-Old texts are often in Latin-1 or MacRoman: try both, and keep the one whose
-letters are right.
-  iconv -f LATIN1 -t UTF-8 FILE > OUT
-  iconv -f MACINTOSH -t UTF-8 FILE > OUT",
+  plistconv-canonicalise --from-xml -o OUT FILE
+Old texts are often in Latin-1 or MacRoman. See which of these prints the right
+letters, and write what that iconv prints to another file:
+  iconv -f LATIN1 -t UTF-8 FILE | plistconv print /dev/stdin
+  iconv -f MACINTOSH -t UTF-8 FILE | plistconv print /dev/stdin",
     ),
     (
         Subject::Refusal(Refusal::XmlForm),
@@ -199,7 +199,7 @@ it begins with <!DOCTYPE html, it is a web page, such as servers send in place
 of a file: fetch the file again. Each of these makes an XML property list
 binary. Always use the same one: plistutil writes 2.5 in 4 bytes,
 plistconv-canonicalise in 8. The last is for macOS alone.
-  plistconv-canonicalise --from-xml - < FILE > OUT
+  plistconv-canonicalise --from-xml -o OUT FILE
   plistutil -i FILE -f bin -o OUT
   plutil -convert binary1 -o OUT FILE",
     ),
@@ -211,9 +211,9 @@ A string needs quotes if it has other characters than ASCII letters and digits
 and _ $ / : . - as in name = \"Tea + milk\"; the quotes must be straight ones.
 A comment begins with // or is between /* and */; # begins none. A text in
 UTF-16 without a byte order mark has bytes 00, and is refused like this too. To
-see such bytes, and to write the text in UTF-8 (some need -f UTF-16BE):
+see such bytes, and what the text is (some need -f UTF-16BE):
   od -c FILE | head
-  iconv -f UTF-16LE -t UTF-8 FILE > OUT
+  iconv -f UTF-16LE -t UTF-8 FILE | plistconv print /dev/stdin
 JSON, with its [ and ], is none of the forms that are read: have a program that
 reads JSON write a binary property list, as this does on macOS:
   plutil -convert binary1 -o OUT FILE",
@@ -324,7 +324,7 @@ that begins with a dash is given as ./-name, standard input as /dev/stdin.",
         "\
 OUT is a folder, is in a folder that is not there, you may not write it, the
 disk is full, or nothing reads the pipe any more. These say which:
-  touch OUT
+  ls -ld OUT
   df OUT
 If the number of bytes is above 0, OUT has only those: delete it.",
     ),

@@ -2,7 +2,7 @@
 ghost use Rattle.std.specs.Prelude.{◌≡◌, Some};
 ghost use Rattle.std.specs.Str.{bytes_eq, str_eq_ignore_ascii_case};
 ghost use Rattle.std.specs.Fmt.{decimal};
-ghost use Rattle.plist_explain.specs.Topics.{is_named, label};
+ghost use Rattle.plist_explain.specs.Topics.{is_named, label, without_colon};
 
 use itoa::Buffer;
 use plist_value::Refusal;
@@ -20,8 +20,8 @@ pub enum Subject {
 pub type Topic = (Subject, &'static str, &'static str);
 
 impl Subject {
-    /// Returns whether the word names the subject. `14` and `DuplicateKey` name a refusal, `C5` a
-    /// rule; letters may be in any case.
+    /// Returns whether the word names the subject. `14` and `DuplicateKey` name a refusal, `C5` and
+    /// `C5:` a rule; letters may be in any case.
     pub fn is_named(self, word: &str) -> bool
         ensures { result ≡ is_named self word.now }
     {
@@ -29,7 +29,7 @@ impl Subject {
             Subject::Refusal(refusal) => {
                 is_name(word, refusal.name()) || is_number(word.as_bytes(), refusal.number())
             }
-            Subject::Rule(rule) => match word.as_bytes() {
+            Subject::Rule(rule) => match without_colon(word.as_bytes()) {
                 [b'C' | b'c', digits @ ..] => is_number(digits, rule),
                 _ => false,
             },
@@ -45,6 +45,16 @@ impl fmt::Display for Subject {
             Subject::Refusal(refusal) => write!(f, "{} {}", refusal.number(), refusal.name()),
             Subject::Rule(rule) => write!(f, "C{rule}"),
         }
+    }
+}
+
+// Returns the word without the colon at its end, if it has one, as in the lines of the list.
+fn without_colon(word: &[u8]) -> &[u8]
+    ensures { result.now ≡ without_colon word.now }
+{
+    match word {
+        [front @ .., b':'] => front,
+        _ => word,
     }
 }
 

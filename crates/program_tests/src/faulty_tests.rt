@@ -1,5 +1,6 @@
-//! The program over files and streams that fail once, give little, or can be opened only once, and
-//! what it leaves of standard input.
+//! The program over files and streams that fail once, give little, or can be opened only once; how
+//! often it opens and synchronises files; and what it leaves of standard input.
+use crate::device_tests::file_of_data;
 use crate::host_tests::{holds, put_files, remove_files};
 use crate::strict::{Strict, StrictHost, Transfers};
 use crate::words::{printed_of, with_memory, words_of};
@@ -87,23 +88,78 @@ const COMMANDS: [(&[u8], &[&str]); 3] = [
     ),
 ];
 
+// Runs over files that are given by absolute paths, by what is at `old` then.
+const ABSOLUTE: [(&[u8], &str); 6] = [
+    (
+        TABLE,
+        "convert binary1 /proc/self/cwd/row2.txt /proc/self/cwd/old|0 ",
+    ),
+    (
+        b"old",
+        "convert binary1 /proc/self/cwd/twice.txt /proc/self/cwd/old|2 /proc/self/cwd/twice.txt: \
+            refused 14 DuplicateKey at octet 3\n",
+    ),
+    (
+        b"old",
+        "same /proc/self/cwd/real4.bin /proc/self/cwd/real8.bin|1 different\n",
+    ),
+    (
+        b"old",
+        "lint /proc/self/cwd/row2.txt|0 /proc/self/cwd/row2.txt: OK\n",
+    ),
+    (b"old", "check /proc/self/cwd/row2.bin|0 canonical\n"),
+    (b"old", "print /proc/self/cwd/real4.bin|0 1.0f\n"),
+];
+
+// Returns how many files a row opens to be read, and how many it creates.
+fn files_of(words: &[&str], row: &str) -> (usize, usize) {
+    match words {
+        [_, "convert", _, _, _] => (1, usize::from(row.ends_with("|0 "))),
+        [_, "same" | "lint" | "check" | "print", paths @ ..] => (paths.len(), 0),
+        _ => (0, 0),
+    }
+}
+
+// Returns whether the row has its result over the host, leaves these bytes at the path `old`, opens
+// and creates each of its files once, and synchronises none.
+fn is_asked_once(rt: &HostRuntime, row: &str, left: &[u8], removes: bool) -> Result<bool, Fail> {
+    let (opened, created, synchronised) = (Cell::new(0), Cell::new(0), Cell::new(0));
+    let transfers = Transfers {
+        synchronised: Some(&synchronised),
+        ..Transfers::GOOD
+    };
+    let host = StrictHost {
+        read: transfers,
+        written: transfers,
+        removes,
+        opened: Some(&opened),
+        created: Some(&created),
+        ..StrictHost::over(rt)
+    };
+    let is_right = is_answered(rt, &host, row, left)?;
+    let words = words_of(rt.alloc(), row)?;
+    let (reads, creates) = files_of(words.as_slice(), row);
+    // Each row is run by both calls.
+    let is_once = opened.get() == 2 * reads && created.get() == 2 * creates;
+    Ok(is_right && is_once && synchronised.get() == 0)
+}
+
 // Each path is opened once. The second time it would be missing.
 #[test]
 fn each_path_is_opened_once(rt: HostRuntime) -> Result<(), Fail> {
-    let good = StrictHost::over(&rt);
-    let once = StrictHost {
-        removes: true,
-        ..StrictHost::over(&rt)
-    };
     for (left, rows) in COMMANDS {
         for row in rows.iter() {
             assert!(rt; is_answered(&rt, &rt, row, left)?, "{row}, not strict");
-            assert!(rt; is_answered(&rt, &good, row, left)?, "{row}");
-            assert!(rt; is_answered(&rt, &once, row, left)?, "{row}, once");
+            assert!(rt; is_asked_once(&rt, row, left, false)?, "{row}");
+            assert!(rt; is_asked_once(&rt, row, left, true)?, "{row}, removed");
         }
     }
+    for (left, row) in ABSOLUTE {
+        assert!(rt; is_asked_once(&rt, row, left, false)?, "{row}");
+        assert!(rt; is_asked_once(&rt, row, left, true)?, "{row}, removed");
+    }
     let twice = "lint row2.bin row2.bin|4 row2.bin: OK\nrow2.bin: refused 50 ReadFailed\n";
-    assert!(rt; is_answered(&rt, &once, twice, b"old")?);
+    assert!(rt; is_asked_once(&rt, twice, b"old", true)?);
     put_files(&rt)?;
     remove_files(&rt)
 }
@@ -195,45 +251,18 @@ fn a_write_that_fails_once_is_51(rt: HostRuntime) -> Result<(), Fail> {
     remove_files(&rt)
 }
 
-// Returns a host that fails so to synchronise what was written.
-fn unsynced(rt: &HostRuntime, kind: ErrorKind) -> StrictHost<'_> {
-    StrictHost {
-        written: Transfers {
-            unsynced: Some(kind),
-            ..Transfers::GOOD
-        },
-        ..StrictHost::over(rt)
-    }
-}
-
-// What a host could not store is told before the run ends. A pipe has nothing to synchronise.
-#[test]
-fn a_file_that_is_not_stored_is_51(rt: HostRuntime) -> Result<(), Fail> {
-    for (words, file) in CONVERSIONS {
-        for kind in KINDS {
-            let lost = is_cut(&rt, &unsynced(&rt, kind), words, file, file.len())?;
-            assert!(rt; lost, "{words}");
-        }
-        for kind in [ErrorKind::InvalidInput, ErrorKind::Unsupported] {
-            let row = format!(in rt.alloc(); "{words}|0 ")?;
-            let kept = is_answered(&rt, &unsynced(&rt, kind), row.as_str(), file)?;
-            assert!(rt; kept, "{words}");
-        }
-    }
-    remove_files(&rt)
-}
-
-// Converts standard input to standard output, of which transfers fail. Returns the exit status and
-// the output, for which memory is reserved, or an error if out of memory: the output is empty if
-// the write that failed was that of the line of 60.
+// Converts this standard input to standard output, of which transfers fail. Returns the exit status
+// and the output, for which memory is reserved, or an error if out of memory: the output is empty
+// if the write that failed was that of the line of 60.
 fn filtered(
     rt: &HostRuntime,
+    octets: &[u8],
     read: Transfers,
     written: Transfers,
     to_end: bool,
 ) -> Result<(u8, Vec<u8>), AllocError> {
-    let mut input = Strict::with(UNSORTED, read);
-    let mut output = Strict::with(Vec::with_capacity(rt.alloc(), 1_000)?, written);
+    let mut input = Strict::with(octets, read);
+    let mut output = Strict::with(Vec::with_capacity(rt.alloc(), 6_000)?, written);
     let host = StrictHost::over(rt);
     let status = ran(&host, rt, &["plistconv"], &mut input, &mut output, to_end);
     if output.device.is_empty() {
@@ -247,15 +276,44 @@ fn streams_that_fail_once(rt: HostRuntime) -> Result<(), Fail> {
     for kind in KINDS {
         for to_end in [false, true] {
             let failing = Transfers::failing(1, kind);
-            let (status, output) = filtered(&rt, failing, Transfers::GOOD, to_end)?;
+            let (status, output) = filtered(&rt, UNSORTED, failing, Transfers::GOOD, to_end)?;
             assert_eq!(rt; status, 4);
             assert_eq!(rt; output.as_slice(), b"-: refused 50 ReadFailed\n".as_slice());
-            let (status, output) = filtered(&rt, Transfers::GOOD, failing, to_end)?;
+            let (status, output) = filtered(&rt, UNSORTED, Transfers::GOOD, failing, to_end)?;
             assert_eq!(rt; status, 4);
             assert_eq!(rt;
                 output.as_slice(),
                 b"-: refused 51 WriteFailed after 0 octets\n".as_slice()
             );
+        }
+    }
+    Ok(())
+}
+
+// The number of a write of up to 1,500 bytes, and how many bytes come before it: the header and the
+// marker of data of 5,000 bytes, and then this data.
+const LONG_WRITES: [(usize, usize); 4] = [(1, 0), (2, 12), (3, 1512), (4, 3012)];
+
+#[test]
+fn a_long_write_that_fails_once_is_51(rt: HostRuntime) -> Result<(), Fail> {
+    let file = file_of_data(rt.alloc(), b"\x4f\x11\x13\x88")?;
+    for (number, sent) in LONG_WRITES {
+        for (to_end, kind) in [(false, ErrorKind::Other), (true, ErrorKind::Interrupted)] {
+            let failing = Transfers {
+                most: 1500,
+                ..Transfers::failing(number, kind)
+            };
+            let (status, output) = filtered(
+                &rt,
+                file.as_slice(),
+                Transfers::GOOD,
+                failing,
+                to_end,
+            )?;
+            let line = format!(in rt.alloc(); "-: refused 51 WriteFailed after {sent} octets\n")?;
+            let mut expected = Vec::from_slice(rt.alloc(), file.get(..sent).unwrap_or(b""))?;
+            expected.extend_from_slice(line.as_bytes())?;
+            assert_eq!(rt; (status, output.as_slice()), (4, expected.as_slice()));
         }
     }
     Ok(())

@@ -15,12 +15,12 @@ pub(crate) fn status_of(rt: &HostRuntime, words: &[&str], output: &mut Vec<u8>) 
     run(rt, rt.alloc(), words, &mut input, output)
 }
 
-// The number 5 in eight bytes.
+// A file of one object, the integer 5 in eight bytes: `13` and the integer.
 const LONG: &[u8] =
     b"bplist00\x13\0\0\0\0\0\0\0\x05\x08\0\0\0\0\0\0\x01\x01\0\0\0\0\0\0\0\x01\0\0\0\0\0\0\0\0\
       \0\0\0\0\0\0\0\x11";
 
-// Its canonical file.
+// The canonical file of that integer, in one byte: `10` and the integer.
 const SHORT: &[u8] =
     b"bplist00\x10\x05\x08\0\0\0\0\0\0\x01\x01\0\0\0\0\0\0\0\x01\0\0\0\0\0\0\0\0\0\0\0\0\0\0\0\
       \x0a";

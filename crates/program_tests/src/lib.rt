@@ -25,6 +25,8 @@ mod several_tests;
 #[cfg(test)]
 mod strict;
 #[cfg(test)]
+mod surface;
+#[cfg(test)]
 mod words;
 
 #[cfg(test)]

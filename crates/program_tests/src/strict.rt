@@ -19,8 +19,8 @@ pub(crate) struct Transfers<'a> {
     pub(crate) failing: Option<(usize, ErrorKind)>,
     // Counts the bytes that were read.
     pub(crate) given: Option<&'a Cell<usize>>,
-    // How it fails that what was written is synchronised.
-    pub(crate) unsynced: Option<ErrorKind>,
+    // Counts how often what was written was to be synchronised.
+    pub(crate) synchronised: Option<&'a Cell<usize>>,
 }
 
 impl Transfers<'_> {
@@ -29,7 +29,7 @@ impl Transfers<'_> {
         most: usize::MAX,
         failing: None,
         given: None,
-        unsynced: None,
+        synchronised: None,
     };
 
     // Returns transfers of which one fails.
@@ -83,6 +83,13 @@ fn refused() -> io::Error {
     io::Error::from(ErrorKind::Other)
 }
 
+// Adds to a counter, if there is one.
+fn count(counter: Option<&Cell<usize>>, more: usize) {
+    if let Some(all) = counter {
+        all.set(all.get().saturating_add(more));
+    }
+}
+
 impl<D: Read> Read for Strict<'_, D> {
     fn read(&mut self, buf: &mut [u8]) -> io::Result<usize> {
         self.longest = self.longest.max(buf.len());
@@ -91,9 +98,7 @@ impl<D: Read> Read for Strict<'_, D> {
         }
         let most = self.begin(buf.len())?;
         let given = self.device.read(&mut buf[..most])?;
-        if let Some(all) = self.transfers.given {
-            all.set(all.get().saturating_add(given));
-        }
+        count(self.transfers.given, given);
         Ok(given)
     }
 }
@@ -126,16 +131,18 @@ impl<D: OpenFile> OpenFile for Strict<'_, D> {
     }
 
     fn sync_all(&self) -> io::Result<()> {
+        count(self.transfers.synchronised, 1);
         Err(refused())
     }
 
     fn sync_data(&self) -> io::Result<()> {
-        match self.transfers.unsynced {
-            Some(kind) => Err(io::Error::from(kind)),
-            None => Ok(()),
-        }
+        count(self.transfers.synchronised, 1);
+        Err(refused())
     }
 }
+
+// The file that the key of the hasher is read from.
+const KEY: &str = "/dev/urandom";
 
 // The files of the host, each of them strict, without a source of random bytes.
 #[derive(Drop)]
@@ -147,8 +154,11 @@ pub(crate) struct StrictHost<'a> {
     // How each attempt to open a file to be read fails, or to create one.
     pub(crate) unopened: Option<ErrorKind>,
     pub(crate) uncreated: Option<ErrorKind>,
-    // Whether a relative path is removed once it is open to be read.
+    // Whether a path is removed once it is open to be read.
     pub(crate) removes: bool,
+    // Counts the files that are opened to be read, and those that are opened otherwise.
+    pub(crate) opened: Option<&'a Cell<usize>>,
+    pub(crate) created: Option<&'a Cell<usize>>,
 }
 
 impl<'a> StrictHost<'a> {
@@ -161,6 +171,8 @@ impl<'a> StrictHost<'a> {
             unopened: None,
             uncreated: None,
             removes: false,
+            opened: None,
+            created: None,
         }
     }
 }
@@ -177,16 +189,20 @@ impl<'a> Files for StrictHost<'a> {
     type Dir = <HostRuntime as Files>::Dir;
 
     fn open_file(&self, how: &OpenOptions, path: &str) -> io::Result<Self::File> {
-        let (fails, transfers) = if how.asks_write() {
-            (self.uncreated, self.written)
+        let (fails, transfers, counter) = if how.asks_write() {
+            (self.uncreated, self.written, self.created)
         } else {
-            (self.unopened, self.read)
+            (self.unopened, self.read, self.opened)
         };
+        let is_key = path == KEY;
+        if !is_key {
+            count(counter, 1);
+        }
         if let Some(kind) = fails {
             return Err(io::Error::from(kind));
         }
         let file = self.rt.open_file(how, path)?;
-        if self.removes && !how.asks_write() && !path.starts_with('/') {
+        if self.removes && !how.asks_write() && !is_key {
             Files::remove_file(self.rt, path)?;
         }
         Ok(Strict::with(file, transfers))

@@ -1,5 +1,5 @@
 //! Files in memory.
-ghost use Rattle.std.specs.Prelude.{◌≡◌, ◌^◌, ◌-◌, ℕ, IfErr, IfOk, IsTrue, OnErr, None, Some};
+ghost use Rattle.std.specs.Prelude.{◌≡◌, ◌^◌, ◌-◌, ℕ, IfErr, IfOk, OnErr, None, Some};
 ghost use Rattle.std.specs.Prelude.{option_map};
 ghost use Rattle.std.specs.IoError.{error_kind};
 ghost use Rattle.plist_convert.specs.Files.{FileName, SameBeside, SameFiles};
@@ -111,8 +111,7 @@ impl Opens for MemoryFiles {
         Ok(taken)
     }
 
-    fn keep(&mut self, alloc: Global, created: Created<'_, Vec<u8>>) -> Result<bool, AllocError>
-        ensures always { IfOk result (λ is_kept. IsTrue is_kept) }
+    fn keep(&mut self, alloc: Global, created: Created<'_, Vec<u8>>) -> Result<(), AllocError>
         ensures kept { IfOk result (λ _.
             Puts created.entry.path.now (Some created.entry.writer.items)
             (Some (bytes_at self.old)) (Some (bytes_at self.new))) }
@@ -120,8 +119,7 @@ impl Opens for MemoryFiles {
             (SameFiles (Some (bytes_at self.old)) (Some (bytes_at self.new))) }
         ensures limit { limit_of self.new ≡ limit_of self.old }
     {
-        self.put(alloc, created.path, created.writer)?;
-        Ok(true)
+        self.put(alloc, created.path, created.writer)
     }
 }
 
