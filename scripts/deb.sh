@@ -109,6 +109,11 @@ mkdir "$info"
 PYTHONPATH=../../bindings/python python3 -Bc 'import sys, wheel_of_plistconv as wheel; sys.stdout.buffer.write(wheel.METADATA)' \
     > "$info/METADATA"
 echo dpkg > "$info/INSTALLER"
+mkdir python3-plistconv/DEBIAN
+# Removes what Python has made of the module.
+printf '%s\n' '#!/bin/sh' 'set -e' 'if command -v py3clean > /dev/null; then py3clean -p python3-plistconv; fi' \
+    > python3-plistconv/DEBIAN/prerm
+chmod 755 python3-plistconv/DEBIAN/prerm
 rm -r all/usr/share/plistconv/python
 take plistconv usr/bin usr/share
 # An empty file, which is of no use among the pages.

@@ -17,6 +17,10 @@ place() { # PATH
     fi
     rm -f "$DESTDIR$1"
     folder=$(dirname "$1")
+    if [[ $1 == *.py ]]; then # and what Python made of it
+        rm -f "$DESTDIR$folder/__pycache__/$(basename "$1" .py)".*.pyc
+        rmdir "$DESTDIR$folder/__pycache__" 2> /dev/null || true
+    fi
     while case $folder/ in "$SHARE/plistconv/"* | "$DOC/"*) true ;; *) false ;; esac; do
         rmdir "$DESTDIR$folder" 2> /dev/null || break
         folder=$(dirname "$folder")

@@ -96,6 +96,10 @@ if wants install || wants manual; then
     [ "$("$installed/bin/plistconv" --version)" = "$(./plistconv --version)" ] || fail 'another program is installed'
 fi
 if wants install; then
+    while read -r kilobytes jobs; do
+        printf 'MemFree: 7 kB\nMemTotal:       %d kB\n' "$kilobytes" > "$work/memory"
+        [ "$(scripts/jobs.sh "$work/memory")" = $((jobs < $(nproc) ? jobs : $(nproc))) ] || fail "the jobs of make for $kilobytes kB"
+    done < <(printf '%s\n' '1 1' '8000000 1' '16300000 2' '24700000 4' '1000000000000 9999')
     no_broken_links "$installed/share/doc/plistconv"
     printf '{b=a;a=b;}' > "$work/a.plist"
     if has python3 python3 'the commands'; then
@@ -113,6 +117,7 @@ if wants install; then
     step 'make uninstall'
     cp -R "$root" "$work/left"
     mkdir -p "$work/left$prefix/share/doc/plistconv/mine" "$work/a"
+    if has python3 python3 'what Python makes of its files'; then python3 -m compileall -q "$work/left$prefix/share/plistconv"; fi
     quietly make uninstall DESTDIR="$work/left" PREFIX="$prefix"
     [ -z "$(find "$work/left" -type f -o -type l)" ] || fail "make uninstall leaves $(find "$work/left" -type f -o -type l)"
     [ "$(find "$work/left" -name 'plistconv*' -o -name mine)" = "$(printf '%s\n' "$work/left$prefix/share/doc/plistconv"{,/mine})" ] ||
@@ -171,9 +176,13 @@ if wants dist && has objdump binutils 'the tar file'; then
         [ -f "${flags[0]#-I}/plistconv.h" ] && [ -f "${flags[1]#-L}/libplistconv.so" ] || fail "pkg-config prints ${flags[*]}"
     fi
     # The commands of INSTALL, without ldconfig, for another folder than /usr/local.
-    commands=$(sed -n "s/^    //; s/ && ldconfig\$//; s|/usr/local|'$work/local'|; /^cp -R/p; /^find/p" "$moved/INSTALL")
+    commands=$(sed -n "s/ && ldconfig\$//; s|/usr/local|'$work/local'|; s/^    \(sha256sum\|find\)/\1/p" "$moved/INSTALL")
     mkdir "$work/local"
     (cd "$moved" && eval "$(head -n 1 <<< "$commands")")
+    "$work/local/bin/plistconv" --version
+    if has python3 python3 'what Python makes of its files'; then python3 -m compileall -q "$work/local/share/plistconv/python"; fi
+    # In another folder they do nothing.
+    (cd "$work/local" && eval "$(head -n 2 <<< "$commands" | tail -n 1)") > "$work/log" 2>&1 && fail 'INSTALL removes files in any folder'
     "$work/local/bin/plistconv" --version
     (cd "$moved" && eval "$(tail -n +2 <<< "$commands")")
     left=$(find "$work/local" ! -type d -o -name 'plistconv*')
@@ -195,6 +204,7 @@ if wants deb && has dpkg-deb dpkg 'the Debian packages' && has objdump binutils 
     has_files "$work/deb/usr" bin/plistconv-digest share/man/man1/plistconv-{tools,digest}.1.gz \
         share/doc/plistconv/{README.md,SECURITY.md,CHANGELOG.md,THIRD-PARTY,docs/FORMATS.md,examples/c/canonical.c} \
         lib/python3/dist-packages/plistconv/py.typed
+    dpkg-deb --info dist/python3-plistconv_*.deb prerm | grep -q 'py3clean -p python3-plistconv' || fail 'Python files stay'
     for package in plistconv libplistconv1 libplistconv-dev; do
         grep -q 'Unicode, Inc' "$work/deb/usr/share/doc/$package/copyright" || fail "$package has no notice of Unicode's"
     done

@@ -45,10 +45,8 @@ def to_write(name: str, follows: bool) -> tuple[str, os.stat_result | None]:
     exist yet, and `None`."""
     if os.path.lexists(name) or not name:
         return to_replace(name, follows)
-    return (
-        os.path.join(os.path.realpath(os.path.dirname(name) or "."), os.path.basename(name)),
-        None,
-    )
+    folder = os.path.realpath(os.path.dirname(name) or ".")
+    return os.path.join(folder, os.path.basename(name)), None
 
 
 def opener(path: str, how: int) -> int:
@@ -89,6 +87,9 @@ def keep_attributes(file: int, path: str) -> list[str]:
         names, made = os.listxattr(path), os.listxattr(file)
     except OSError as fault:
         return [] if fault.errno in (errno.ENOTSUP, errno.ENOSYS) else ["extended attributes"]
+    if ACL in made:
+        os.removexattr(file, ACL)  # That of the folder, which may take the space of the others.
+        made.remove(ACL)
     lost = []
     for name in names:
         try:
@@ -97,8 +98,6 @@ def keep_attributes(file: int, path: str) -> list[str]:
                 os.setxattr(file, name, value)
         except OSError:
             lost.append(f"extended attribute {name}")
-    if ACL in made and ACL not in names:
-        os.removexattr(file, ACL)  # That of the folder.
     return lost
 
 

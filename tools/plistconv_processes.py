@@ -2,17 +2,15 @@
 from __future__ import annotations
 
 import os
-import select
 import signal
 import subprocess
-import threading
+import sys
+import tempfile
 from collections import deque
-from contextlib import contextmanager, suppress
-from typing import Callable, Iterable, Iterator, NoReturn, TypeVar
+from contextlib import ExitStack, contextmanager, suppress
+from itertools import chain
+from typing import Any, Callable, Iterable, Iterator, NoReturn
 
-Item = TypeVar("Item")
-Result = TypeVar("Result")
-SECOND = "SECOND"  # where a command has the path of its second input
 SIGNALS = ("HUP", "INT", "QUIT", "ALRM", "TERM", "USR1", "USR2", "VTALRM", "PROF", "XCPU")
 BEGUN: list[Callable[[], None]] = []  # what undoes the steps that are not complete
 
@@ -50,60 +48,54 @@ def undoing(undo: Callable[[], None]) -> Iterator[None]:
         BEGUN.remove(undo)
 
 
-def run_over(command: list[str], octets: tuple[bytes, ...], limit: int) -> tuple[int, bytes]:
-    """Runs a program with the first bytes as input, and returns its status and output. If a word
-    of the command is `SECOND`, it becomes the path of a pipe with the second bytes. Ends the
-    program if its output exceeds `limit` bytes. Raises `OSError` if it cannot be run."""
-    pipes = [os.pipe() for _ in octets]
-    ends = [reading for reading, _ in pipes]
-    words = [f"/dev/fd/{ends[1]}" if word == SECOND else word for word in command]
-    process = subprocess.Popen(words, stdin=ends[0], stdout=subprocess.PIPE, pass_fds=ends[1:])
-    with process, undoing(process.kill):
-        assert process.stdout is not None
-        feeders = []
-        for (reading, writing), part in zip(pipes, octets):
-            os.close(reading)
-            feeders.append(threading.Thread(target=feed, args=(writing, part)))
-            feeders[-1].start()
-        output = read_up_to(process.stdout.fileno(), limit)
-        if len(output) > limit:
-            process.kill()
-        for feeder in feeders:
-            feeder.join()
-    return process.returncode, output
-
-
-def read_up_to(pipe: int, limit: int) -> bytes:
-    """Returns what is written to a pipe, or a part of more than `limit` bytes."""
-    output, poll = bytearray(), select.poll()
-    poll.register(pipe, select.POLLIN)
-    while len(output) <= limit:
-        while not poll.poll(1000):
-            pass  # A signal that comes just before it waits does not end the wait.
-        part = os.read(pipe, 1 << 20)
-        if not part:
-            break
-        output += part
-    return bytes(output)
-
-
-def feed(pipe: int, octets: bytes) -> None:
-    """Writes the bytes to a pipe and closes it. The reader may end earlier."""
-    with suppress(BrokenPipeError), open(pipe, "wb") as file:
+@contextmanager
+def holding(octets: bytes) -> Iterator[int]:
+    """Gives the number of an unnamed temporary file with these bytes, at its beginning."""
+    with tempfile.TemporaryFile() as file:
         file.write(octets)
+        file.flush()
+        file.seek(0)
+        yield file.fileno()
 
 
-def in_order(work: Callable[[Item], Result], items: Iterable[Item]) -> Iterator[Result]:
-    """Yields the results for the items in their order, and works on as many at a time as the
-    machine has processors. Few are in memory at a time."""
-    from concurrent.futures import ThreadPoolExecutor  # It takes long to load.
+def start(
+    command: list[str], *inputs: bytes, env: dict[str, str] | None = None
+) -> Callable[..., tuple[int, bytes]]:
+    """Starts a program with the first input as standard input, and the paths of the others as its
+    last arguments. Returns a function that returns its status and output, or a part that has more
+    bytes than it allows, and then ends the program. Raises `OSError` if it cannot be run."""
+    with ExitStack() as stack:
+        files = [stack.enter_context(holding(octets)) for octets in inputs]
+        words = [*command, *(f"/dev/fd/{file}" for file in files[1:])]
+        process = subprocess.Popen(
+            words, stdin=files[0], stdout=subprocess.PIPE, pass_fds=files[1:], env=env
+        )
+    BEGUN.append(process.kill)
 
+    def finish(most: int = sys.maxsize) -> tuple[int, bytes]:
+        assert process.stdout is not None
+        pipe, output = process.stdout.fileno(), bytearray()
+        with process:
+            for part in iter(lambda: os.read(pipe, 1 << 20), b""):
+                output += part
+                if len(output) > most:
+                    process.kill()
+                    break
+        BEGUN.remove(process.kill)
+        return process.returncode, bytes(output)
+
+    return finish
+
+
+def in_order(jobs: Iterable[Iterator]) -> Iterator[Any]:
+    """Yields the last item of each job, in their order. At the item before it, a job waits for a
+    program: as many run at a time as the machine has processors."""
     many = os.cpu_count() or 1
-    with ThreadPoolExecutor(many) as pool:
-        waiting: deque = deque()
-        for item in items:
-            waiting.append(pool.submit(work, item))
-            if len(waiting) == 2 * many:
-                yield waiting.popleft().result()
-        while waiting:
-            yield waiting.popleft().result()
+    begun: deque = deque()
+    for job in jobs:
+        begun.append(chain([next(job)], job))
+        if len(begun) == many:
+            *_, result = begun.popleft()
+            yield result
+    for *_, result in begun:
+        yield result

@@ -1,8 +1,7 @@
 """What the plistconv commands share: arguments, input, the program, messages and exit statuses.
 
-The commands read their files and pass the bytes to the program on its standard input, so
-names may be anything that the system allows. No command makes a temporary file, except beside
-a file that it replaces, and for the index of a bare repository.
+The commands read their files, and the program gets the bytes in an unnamed temporary file, so
+names may be anything that the system allows.
 """
 from __future__ import annotations
 
@@ -14,14 +13,14 @@ import shutil
 import signal
 import struct
 import sys
-from contextlib import contextmanager
+from contextlib import contextmanager, suppress
 from functools import lru_cache
 from typing import Callable, Iterator, NoReturn
 
-from plistconv_processes import SECOND, end_at_signals, run_over
+from plistconv_early import COMMAND, Trouble, escaped, say, write_all
+from plistconv_processes import end_at_signals, start
 
 VERSION = "0.3.0"
-COMMAND = os.path.basename(sys.argv[0])
 STANDARD_INPUT = ("-", "/dev/stdin", "/dev/fd/0", "/proc/self/fd/0")
 PRINT_LIMIT = 64_000_000  # the most bytes of a printed text, unless PLISTCONV_PRINT_LIMIT is set
 PRINTED = (
@@ -33,9 +32,6 @@ ANSWERS = {
     ("", 0): rb"(?s)bplist00.{32,}",
     ("same", 0): rb"equal\n",
     ("same", 1): rb"different\n",
-    ("lint", 0): rb"[^\n]*: OK\n",
-    ("check", 0): rb"canonical\n",
-    ("check", 1): rb"broken C[0-7] at object [0-9]+\n",
     ("print", 0): PRINTED,
 }
 REFUSAL = re.compile(
@@ -55,23 +51,13 @@ class RefusedXml(Refused):
     """XML, which the program refuses."""
 
 
-class Trouble(Exception):
-    """The command ends with status 2. The message says why."""
+class Failed(Exception):
+    """The program fails over a file, which may be faultless. The message says how."""
 
 
-def reason(fault: OSError) -> str:
-    """Returns the error message of the system, without the name of the file."""
-    return fault.strerror or str(fault)
-
-
-def why(fault: Exception) -> str:
-    """Returns the reason of a fault, without the name of the file."""
-    return reason(fault) if isinstance(fault, OSError) else str(fault)
-
-
-def escaped(text: str) -> str:
-    """Returns the text with line ends and control characters escaped."""
-    return "".join(c if c.isprintable() else c.encode("unicode_escape").decode() for c in text)
+def reason(fault: Exception) -> str:
+    """Returns why something fails, without the name of the file."""
+    return getattr(fault, "strerror", None) or str(fault)
 
 
 def shown(name: str) -> str:
@@ -79,44 +65,31 @@ def shown(name: str) -> str:
     return escaped(os.fsencode(name).decode("utf-8", "backslashreplace"))
 
 
-def say(message: str) -> None:
-    """Writes a message to standard error, and ignores failures."""
-    encoding = getattr(sys.stderr, "encoding", None) or "utf-8"
-    try:
-        write_all(2, f"{COMMAND}: {message}\n".encode(encoding, "backslashreplace"))
-    except OSError:
-        pass
-
-
 class Faults:
     """Reports what is wrong with files while the others are worked on."""
 
     def __init__(self) -> None:
-        self.count, self.has_xml = 0, False
+        self.worst, self.has_xml = 0, False
+
+    def add(self, name: str, fault: Exception, end: str = "") -> None:
+        """Says why the work on a file fails."""
+        say(f"{shown(name)}: {reason(fault)}{end}")
+        self.worst = max(self.worst, 2 if isinstance(fault, Failed) else 1)
+        self.has_xml = self.has_xml or isinstance(fault, RefusedXml)
 
     @contextmanager
     def of(self, name: str, end: str = "") -> Iterator[None]:
         """Says why the work on a file fails, and ends this work."""
         try:
             yield
-        except (Refused, OSError) as fault:
-            say(f"{shown(name)}: {escaped(why(fault))}{end}")
-            self.count += 1
-            self.has_xml = self.has_xml or isinstance(fault, RefusedXml)
+        except (Refused, Failed, OSError) as fault:
+            self.add(name, fault, end)
 
     def status(self) -> int:
         """Returns the exit status, and says how to convert XML if some was refused."""
         if self.has_xml:
             say(XML_HINT)
-        return 1 if self.count else 0
-
-
-class Version(argparse.Action):
-    """The option that prints the version."""
-
-    def __call__(self, parser: argparse.ArgumentParser, *_rest: object) -> NoReturn:
-        write(f"{COMMAND} {VERSION}\n".encode())
-        sys.exit(0)
+        return self.worst
 
 
 class Parser(argparse.ArgumentParser):
@@ -127,7 +100,8 @@ class Parser(argparse.ArgumentParser):
         self.options: set[str] = set()
         shape = argparse.RawDescriptionHelpFormatter
         super().__init__(prog=COMMAND, description=usage, formatter_class=shape, allow_abbrev=False)
-        self.add_argument("--version", action=Version, nargs=0, help="print the version and exit")
+        about = "print the version and exit"
+        self.add_argument("--version", action="version", version=f"{COMMAND} {VERSION}", help=about)
 
     def add_argument(self, *names: str, **about: object) -> argparse.Action:
         """Adds an argument or an option."""
@@ -138,9 +112,9 @@ class Parser(argparse.ArgumentParser):
         """Adds an option without a value."""
         self.add_argument(name, action="store_true", help=about)
 
-    def print_help(self, file: object = None) -> None:
-        """Prints the help, or ends the command if it cannot be written."""
-        write(self.format_help().encode())
+    def _print_message(self, message: str, file: object = None) -> None:
+        """Prints the help or the version, or ends the command if it cannot be written."""
+        write(message.encode())
 
     def error(self, message: str) -> NoReturn:
         """Ends the command with a usage error, which is an unknown option if there is one."""
@@ -150,7 +124,10 @@ class Parser(argparse.ArgumentParser):
             known = word.partition("=")[0] in self.options or word[:2] in self.options
             if word.startswith("-") and word != "-" and not known:
                 message = f"there is no option {shown(word)}"
-        super().error(message)
+        with suppress(OSError):
+            write_all(2, self.format_usage().encode())
+        say(f"error: {message}")
+        sys.exit(2)
 
     def read_input_once(self, names: list[str]) -> None:
         """Ends the command with a usage error if several names are those of standard input,
@@ -169,29 +146,23 @@ def read(name: str) -> bytes:
     return sys.stdin.buffer.read()
 
 
+@contextmanager
+def output() -> Iterator[None]:
+    """Ends the command if standard output cannot be written: as by SIGPIPE if nobody reads it."""
+    try:
+        yield
+    except BrokenPipeError:
+        sys.exit(128 + signal.SIGPIPE)
+    except OSError as fault:
+        raise Trouble(f"standard output cannot be written: {reason(fault)}") from None
+
+
 def write(octets: bytes) -> None:
     """Writes all of the bytes to standard output, or ends the command."""
-    try:
+    with output():
         if sys.stdout is None:
             raise OSError(errno.EBADF, os.strerror(errno.EBADF))
         write_all(1, octets)
-    except OSError as fault:
-        give_up_output(fault)
-
-
-def give_up_output(fault: OSError) -> NoReturn:
-    """Ends the command because standard output cannot be written: by SIGPIPE if
-    nobody reads the pipe."""
-    if isinstance(fault, BrokenPipeError):
-        sys.exit(128 + signal.SIGPIPE)
-    raise Trouble(f"standard output cannot be written: {reason(fault)}")
-
-
-def write_all(file: int, octets: bytes) -> None:
-    """Writes all of the bytes to an open file. Raises `OSError`."""
-    rest = memoryview(octets)
-    while rest:
-        rest = rest[os.write(file, rest) :]
 
 
 @lru_cache(maxsize=None)
@@ -218,28 +189,32 @@ def own_places() -> list[str]:
     return places
 
 
-def ask(arguments: list[str], *octets: bytes, limit: int = sys.maxsize) -> tuple[int, bytes]:
-    """Runs the program with one or two inputs and returns its status and output, or the first part
-    of what exceeds `limit` bytes. Raises `Refused` if it refuses an input."""
+def ask(asked: str, *inputs: bytes, most: int = sys.maxsize) -> Callable[[], tuple[int, bytes]]:
+    """Starts the program over one or two inputs, with a command or none. Returns a function that
+    returns what `answer` does. Raises `Failed` if it cannot be run."""
     try:
-        status, output = run_over([program(), *arguments], octets, limit)
+        finish = start([program(), *([asked, "/dev/stdin"] if asked else [])], *inputs)
     except OSError as fault:
-        raise Trouble(f"{shown(program())} cannot be run: {reason(fault)}") from None
-    if len(output) > limit:
-        return status, output
-    return answer(arguments[0] if arguments else "", status, output, is_xml(octets[0]))
+        raise Failed(f"{shown(program())} cannot be run over it: {reason(fault)}") from None
+    return lambda: answer(asked, *finish(most), is_xml(inputs[0]), most)
 
 
-def answer(asked: str, status: int, output: bytes, has_xml: bool) -> tuple[int, bytes]:
+def answer(
+    asked: str, status: int, output: bytes, has_xml: bool, most: int = sys.maxsize
+) -> tuple[int, bytes]:
     """Returns the status and output of the program if they answer what it was asked. Raises
-    `Refused` if it refuses an input, and `Trouble` if it says anything else."""
+    `Refused` if it refuses an input or prints too much, and `Failed` if it says anything else."""
+    if len(output) > most:
+        raise Refused(f"prints more than {most} bytes, the limit (PLISTCONV_PRINT_LIMIT)")
     shape = ANSWERS.get((asked, status))
     if shape and re.fullmatch(shape, output) and (asked or is_whole(output)):
         return status, output
     refusal = REFUSAL.fullmatch(output)
     if refusal is None or status != (5 if refusal[2] == b"60" else 2):
-        raise Trouble(f"{shown(program())} ended with status {status}, without an answer")
+        raise Failed(f"{shown(program())} ended with status {status}, without an answer")
     line = refusal[1].decode()
+    if status == 5:
+        raise Failed(f"{line}, which says nothing about it")
     raise RefusedXml(f"{line} (XML)") if has_xml else Refused(line)
 
 
@@ -251,7 +226,7 @@ def is_whole(octets: bytes) -> bool:
 
 def canonical(octets: bytes) -> bytes:
     """Returns the canonical file of a property list. Raises `Refused`."""
-    return ask([], octets)[1]
+    return ask("", octets)()[1]
 
 
 def print_limit() -> int:
@@ -264,21 +239,7 @@ def print_limit() -> int:
 
 def printed(octets: bytes) -> bytes:
     """Returns the printed text of a property list. Raises `Refused`, also if it is too long."""
-    limit = print_limit()
-    text = ask(["print", "/dev/stdin"], octets, limit=limit)[1]
-    if len(text) > limit:
-        raise Refused(f"prints more than {limit} bytes, the limit (PLISTCONV_PRINT_LIMIT)")
-    return text
-
-
-def print_begins(octets: bytes) -> bytes:
-    """Returns the printed text of a property list, or its beginning. Raises `Refused`."""
-    return ask(["print", "/dev/stdin"], octets, limit=1 << 10)[1]
-
-
-def same(old: bytes, new: bytes) -> bool:
-    """Returns whether two property lists have equal values. Raises `Refused`."""
-    return ask(["same", "/dev/stdin", SECOND], old, new)[0] == 0
+    return ask("print", octets, most=print_limit())()[1]
 
 
 def without_xml(octets: bytes) -> bytes:
@@ -305,42 +266,19 @@ def binary_of_xml(octets: bytes) -> bytes:
         raise Refused(f"refused as XML: {fault}") from None
 
 
-def prepare() -> None:
-    """Opens standard files that are closed, so that no other file gets their numbers,
-    and handles signals."""
+def run(main: Callable[[], int]) -> NoReturn:
+    """Runs the command and exits with the status that it returns. Opens standard files that are
+    closed first, so that no other file gets their numbers, and closes standard output last."""
     for number in (0, 1, 2):
         try:
             os.fstat(number)
         except OSError:
             os.open(os.devnull, os.O_RDWR)
     end_at_signals()
-
-
-def close_output() -> None:
-    """Flushes and closes standard output, or raises `Trouble`."""
-    output, sys.stdout = sys.stdout, None  # type: ignore[assignment]
     try:
-        if output is not None:
-            output.flush()
-            os.close(1)
-    except OSError as fault:
-        give_up_output(fault)
-
-
-def run(main: Callable[[], int]) -> NoReturn:
-    """Runs the command and exits with the status that it returns, or with 2 on `Trouble`."""
-    try:
-        prepare()
-        try:
-            status: str | int | None = main()
-        except SystemExit as ended:  # Raised by the argument parser.
-            status = ended.code
-            if status == 0:
-                write(b"")  # If standard output is closed, the help went to standard error.
-        close_output()
+        status: str | int | None = main()
     except SystemExit as ended:
         status = ended.code
-    except (Trouble, MemoryError) as fault:
-        say(str(fault) or "out of memory")
-        status = 2
+    with output():
+        os.close(1)
     sys.exit(status)

@@ -128,27 +128,6 @@ def check(octets: bytes) -> None:
         raise Fault(str(fault)) from None
 
 
-def are_same(first: object, second: object) -> bool:
-    """Returns whether two values are identical, including the bits of reals and
-    the order of keys."""
-    rest = [(first, second)]
-    while rest:
-        one, other = rest.pop()
-        if type(one) is not type(other):
-            return False
-        if isinstance(one, dict) and isinstance(other, dict):
-            if list(one) != list(other):
-                return False
-            rest.extend(zip(one.values(), other.values()))
-        elif isinstance(one, list) and isinstance(other, list):
-            if len(one) != len(other):
-                return False
-            rest.extend(zip(one, other))
-        elif repr(one) != repr(other):
-            return False
-    return True
-
-
 def binary(octets: bytes) -> bytes:
     """Returns a binary file with the value of an XML property list. Raises `Fault`."""
     check(octets)
@@ -157,8 +136,8 @@ def binary(octets: bytes) -> bytes:
     try:
         value = plistlib.loads(octets, fmt=plistlib.FMT_XML, dict_type=Table)
         made = plistlib.dumps(value, fmt=plistlib.FMT_BINARY, sort_keys=False)
-        # plistlib writes 0.0 and -0.0 as one object.
-        if not are_same(plistlib.loads(made, fmt=plistlib.FMT_BINARY, dict_type=Table), value):
+        # plistlib writes 0.0 and -0.0 as one object. What differs shows differently.
+        if repr(plistlib.loads(made, fmt=plistlib.FMT_BINARY, dict_type=Table)) != repr(value):
             raise Fault("plistlib does not write what it has read")
     except Fault:
         raise

@@ -1,11 +1,8 @@
 """Tests which files plistconv-canonicalise replaces."""
-from __future__ import annotations
-
 import os
 import resource
 import shutil
 import stat
-import unittest
 
 from testing import ARCHIVE, OTHER, PROGRAM, SAME, TEXT, TWICE, XML, Case
 
@@ -60,12 +57,8 @@ class Canonicalise(Case):
         self.assertEqual((after.st_ino, after.st_mtime_ns), (before.st_ino, before.st_mtime_ns))
 
     def test_files_of_one_word_or_of_none_are_left(self):
-        comments = (
-            b"// { all }\n",
-            b"/* { */ /**/",
-            "// é\u2028 // {".encode(),
-            "/* é { */".encode("utf-16"),
-        )
+        comments = [b"// { all }\n", b"/* { */ /**/", "// é\u2028 // {".encode()]
+        comments.append("/* é { */".encode("utf-16"))
         for octets in (b"", b"\n", b"word", b"0123abc\n", b'"a b"', b"<00>", *comments):
             path = self.put("a", octets)
             self.refuses("one word or of none", "canonicalise a")
@@ -83,6 +76,7 @@ class Canonicalise(Case):
         self.put_all(files)
         said = self.says("canonicalise", *files)
         self.assertEqual(said.count("left as it is"), 3)
+        self.assertIn("xml: refused 21 XmlForm at octet 0 (XML); left as it is\n", said)
         for name, octets in {**files, "a": self.canonical(TEXT)}.items():
             self.assertEqual(self.content(name), octets)
 
@@ -117,7 +111,12 @@ class Canonicalise(Case):
         self.assertTrue(stat.S_ISFIFO((self.folder / "pipe").stat().st_mode))
 
     def test_devices_stay_devices(self):
-        node = self.node("device")
+        node = self.folder / "device"  # Like /dev/null, which a faulty command would destroy.
+        try:
+            os.mknod(str(node), 0o666 | stat.S_IFCHR, os.makedev(1, 3))
+            node.read_bytes()
+        except OSError:
+            self.skipTest("skipped: no device can be made here")
         self.refuses("is no regular file", "canonicalise --from-xml device")
         self.assertTrue(stat.S_ISCHR(node.stat().st_mode))
         with node.open("wb") as device:
@@ -175,7 +174,9 @@ class Canonicalise(Case):
         why = "a: File too large; left as it is"
         self.refuses(why, "canonicalise a", preexec_fn=limit_files)
         self.assertEqual((self.content("a"), self.left()), (TEXT, ["a"]))
-
-
-if __name__ == "__main__":
-    unittest.main()
+        # For the input of the program, which then is not called.
+        self.put_all({"a": SAME, "b": OTHER})
+        for command in ("canonicalise a", "digest a", "diff a b", "textconv a"):
+            why = "cannot be run over it: File too large"
+            self.refuses(why, command, status=2, preexec_fn=limit_files)
+        self.assertEqual((self.content("a"), self.left()), (SAME, ["a", "b"]))

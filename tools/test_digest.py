@@ -1,13 +1,10 @@
 """Tests plistconv-digest and plistconv-diff."""
-from __future__ import annotations
-
 import hashlib
 import os
 import random
 import re
 import shutil
 import sys
-import unittest
 
 from testing import ARCHIVE, OTHER, PROGRAM, SAME, TEXT, TOOLS, TOP, TWICE, XML, Case
 
@@ -39,13 +36,12 @@ class Digest(Case):
             (ARCHIVE, "refused 9 UidObject at object 2"),
         ):
             self.put("b\\", octets)
-            said = f"plistconv-digest: b\\: {why}"
-            self.refuses(said, "digest b\\ none a", printed=digest)
-            # With --all-lines files that are refused differ.
+            self.refuses(f"plistconv-digest: b\\: {why}", "digest b\\ none a", printed=digest)
+            # With --all-lines files that are refused differ, but not those that cannot be read.
             line = f"\\{why}; bytes {hashlib.sha256(octets).hexdigest()}  b\\\\\n".encode()
-            self.refuses(said, "digest --all-lines b\\ a", printed=line + digest)
-        line = b"No such file or directory  none\n"
-        self.refuses("none: No such file", "digest --all-lines none", printed=line)
+            self.prints(line + digest, "digest --all-lines b\\ a")
+            said = "none: No such file"
+            self.refuses(said, "digest --all-lines b\\ none a", printed=line + digest)
 
     def test_digest_of_xml_is_that_of_its_binary_file(self):
         self.put("x", XML)
@@ -97,41 +93,48 @@ class Digest(Case):
         self.assertEqual(self.content("printed"), wanted)
 
     def test_many_files_have_their_lines_and_messages_in_order(self):
-        wrong = [b"3", b"13", b"23", b"33", b"43"]
-        lines = []
-        for name in map(str, range(50)):
-            octets = TWICE if name.encode() in wrong else f"(a{name},b)".encode()
-            self.put(name, octets)
-            if octets != TWICE:
-                lines.append(f"{hashlib.sha256(self.canonical(octets)).hexdigest()}  {name}\n")
-        run = self.tool("digest", *map(str, range(50)), status=1)
-        self.assertEqual(run.stdout.decode(), "".join(lines))
-        named = re.findall(rb"(?m)^plistconv-digest: (\d+): refused", run.stderr)
-        self.assertEqual(named, wrong)
+        names = list(map(str, range(40)))
+        wrong = {"3": TWICE, "13": b"(killed)", "23": b"(memory)", "33": TWICE}
+        self.put_all({name: wrong.get(name, f"(a{name},b)".encode()) for name in names})
+        wanted = self.lines(*(name for name in names if name not in wrong))
+        kill = "grep -q killed /dev/stdin && kill -9 $$"
+        full = "if grep -q memory /dev/stdin; then echo '-: refused 60 OutOfMemory'; exit 5; fi"
+        env = self.program(f'{kill}\n{full}\nexec "$PROGRAM" < /dev/stdin')
+        run = self.tool("digest", *names, status=2, env=env)
+        self.assertEqual(run.stdout, wanted)
+        why = "refused 14 .*", ".* ended with status -9, .*", "refused 60 .*", "refused 14 .*"
+        said = "".join(f"plistconv-digest: {name}: {it}\n" for name, it in zip(wrong, why))
+        self.assertRegex(run.stderr.decode(), f"^{said}$")
 
-    def test_trouble_ends_the_run_after_the_lines_before_it(self):
-        names = [str(number) for number in range(20)]
-        self.put_all({name: f"(a{name},b)".encode() for name in names})
-        wanted = self.lines("0", "1", "2")
-        fails = 'grep -q a3 "$0.$$" && exit 3'
-        env = self.program(f'cat > "$0.$$"\n{fails}\nexec "$PROGRAM" "$@" < "$0.$$"')
-        self.refuses("ended with status 3", "digest", *names, status=2, env=env, printed=wanted)
-
-    def test_lines_of_the_page_name_a_folder_that_is_not_there(self):
+    def test_lines_of_the_page_compare_folders_and_fail_if_a_list_is_not_whole(self):
+        page = (TOP / "docs" / "RECIPES.md").read_text(encoding="utf-8")
+        lines = re.search(r"(?m)^    (digests\(\) .*)\n    (diff .*)$", page).groups()
+        words = ["bash", "-c", "\n".join(lines)]
         if shutil.which("bash") is None:
             self.skipTest("skipped: there is no bash")
-        page = (TOP / "docs" / "RECIPES.md").read_text(encoding="utf-8")
-        lines = "\n".join(re.search(r"(?m)^    (digests\(\) .*)\n    (diff .*)$", page).groups())
-        for folders, said in (
-            ([], b"1c1\n< no Old.app\n---\n> no New.app\n"),
-            (["Old.app"], b"0a1\n> no New.app\n"),
-            (["Old.app", "New.app"], b""),
+        named = "Old.app: not read completely", "New.app: not read completely"
+        for there in ("", "Old.app", "New.app"):
+            (self.folder / there).mkdir(exist_ok=True)
+            shown = self.call(words, 1 if there != "New.app" else 0).stdout.decode()
+            self.assertEqual([name in shown for name in named], [not there, there != "New.app"])
+        self.put_all({"Old.app/a b/x.plist": TEXT, "New.app/a b/x.plist": SAME})
+        for old, new in (
+            (b"a=b;", b"a=c;"),
+            (XML, XML.replace(b"2.5", b"3.5")),
+            (TWICE, TWICE + b" "),
+            (XML[:-9], XML[:-8]),
+            (ARCHIVE, ARCHIVE.replace(b"\x80\x01", b"\x80\x02")),
         ):
-            for folder in folders:
-                (self.folder / folder).mkdir(exist_ok=True)
-            run = self.call(["bash", "-c", lines], 1 if said else 0)
-            self.assertEqual(run.stdout, said)
-            self.assertEqual(bool(run.stderr), bool(said))
+            self.put_all({"Old.app/one.plist": old, "New.app/one.plist": old})
+            self.assertEqual(self.call(words).stdout, b"")
+            self.put("New.app/one.plist", new)
+            self.assertEqual(self.call(words, 1).stdout.count(b"one.plist"), 2)
+        # No program, no command, and files that cannot be read, since they are removed.
+        self.script("bin/sort", "cat\nrm -r ./one.plist 'a b'")
+        path = self.environment["PATH"]
+        for env in ({"PLISTCONV": "/none"}, {"PATH": os.defpath}, {"PATH": f"bin:../bin:{path}"}):
+            shown = self.call(words, 1, env=env).stdout.decode()
+            self.assertEqual([name in shown for name in named], [True, True], env)
 
 
 class Diff(Case):
@@ -142,7 +145,8 @@ class Diff(Case):
         self.prints(b"", "diff a b")
         lines = b'@@ -1,4 +1,4 @@\n {\n-  "a" => "b"\n+  "a" => "c"\n   "b" => "a"\n }\n'
         self.prints(b"--- a\n+++ c\n" + lines, "diff a c", status=1)
-        self.refuses("twice: refused 14 DuplicateKey at octet 3", "diff a twice", status=2)
+        for words in ("a twice", "twice a"):
+            self.refuses("twice: refused 14 DuplicateKey at octet 3", f"diff {words}", status=2)
 
     def test_pipes_as_of_a_shell_and_standard_input(self):
         self.put_all({"a": TEXT, "c": OTHER})
@@ -193,7 +197,3 @@ class Diff(Case):
         self.put_all({"x": XML, "text": b"{a=2.5;}"})
         printed = self.tool("diff x text", status=1).stdout
         self.assertIn(b'-  "a" => 2.5\n+  "a" => "2.5"\n', printed)
-
-
-if __name__ == "__main__":
-    unittest.main()

@@ -1,15 +1,12 @@
 """Tests the installation of the hook, plistconv-textconv, and the examples of the page
 with git and bundles."""
-from __future__ import annotations
-
 import os
 import plistlib
 import re
-import shutil
-import unittest
 
 from testing import ARCHIVE, OTHER, PRINTED, SAME, TEXT, TOP, TWICE, XML, Repository
 
+SIDES = b"<<<<<<< one\na = b;\n=======\na = c;\n>>>>>>> two\n"
 CALLS = b"#!/bin/sh\nplistconv-staged || exit 1\n"
 # Equal to TEXT.
 UNSORTED = plistlib.dumps({"b": "a", "a": "b"}, fmt=plistlib.FMT_BINARY, sort_keys=False)
@@ -27,7 +24,8 @@ class Install(Repository):
 
     def test_hook_is_made_once_and_works(self):
         hooks = ".git/hooks/pre-commit", ".git/hooks/pre-merge-commit"
-        said = "".join(f"{hook} calls plistconv-staged\n" for hook in hooks).encode()
+        line = "has the line: plistconv-staged || exit 1"
+        said = "".join(f"{hook} {line}\n" for hook in hooks).encode()
         for _ in range(2):
             self.prints(said, "staged --install")
         for hook in hooks:
@@ -89,20 +87,15 @@ class Install(Repository):
         inner = str(self.folder / "one" / "two")
         self.git("init -q", inner)
         own = "plistconv-staged: {}: other repositories with this folder run the hooks too\n"
-        for path, is_shared in (
-            (str(self.folder / "hooks"), True),
-            ("../../hooks", True),
-            ("..", True),
-            ("hooks", False),
-            (f"{inner}/.git/other", False),
-        ):
+        shared = str(self.folder / "hooks"), "../../hooks", ".."
+        for path in (*shared, "hooks", f"{inner}/.git/other"):
             self.git("config core.hooksPath", path, cwd=inner)
             said = self.says("staged --install", status=0, cwd=inner)
-            self.assertEqual(said, own.format(path) if is_shared else "", path)
+            self.assertEqual(said, own.format(path) if path in shared else "", path)
 
     def left_as_it_is(self, why: str) -> None:
         """Expects that the hook pre-commit is left, and that the other is made."""
-        merged = b".git/hooks/pre-merge-commit calls plistconv-staged\n"
+        merged = b".git/hooks/pre-merge-commit has the line: plistconv-staged || exit 1\n"
         said = f"{why}; left as it is. Have it call: plistconv-staged || exit 1"
         self.refuses(said, "staged --install", printed=merged)
 
@@ -134,22 +127,14 @@ class Install(Repository):
         self.git("worktree add -q -b other", "other tree")
         self.git("-c protocol.file.allow=always submodule add -q", str(self.folder), "module")
         hooks, of_module = self.folder / ".git/hooks", self.folder / ".git/modules/module/hooks"
-        for folder, made in (
-            ("other tree/sub", hooks),
-            ("sub", hooks),
-            ("module/sub", of_module),
-        ):
+        for folder, made in (("other tree/sub", hooks), ("sub", hooks), ("module/sub", of_module)):
             self.tool("staged --install", cwd=folder)
             self.assertTrue(os.access(str(made / "pre-commit"), os.X_OK))
             (made / "pre-commit").unlink()
         self.assertFalse((hooks / "pre-commit").exists())
         self.git("config core.hooksPath", "my hooks")
-        self.prints(
-            b"../my hooks/pre-commit calls plistconv-staged\n"
-            b"../my hooks/pre-merge-commit calls plistconv-staged\n",
-            "staged --install",
-            cwd="sub",
-        )
+        said = self.tool("staged --install", cwd="sub").stdout
+        self.assertIn(b"../my hooks/pre-merge-commit has the line: ", said)
         self.put("a.plist", TEXT)
         self.git("add a.plist")
         self.assertIn("a.plist: an OpenStep", self.commit(status=1))
@@ -158,15 +143,10 @@ class Install(Repository):
 
     def test_file_for_the_framework_names_the_command(self):
         lines = (TOP / ".pre-commit-hooks.yaml").read_text(encoding="utf-8").splitlines()
-        pairs = dict(line[2:].split(": ", 1) for line in lines if not line.startswith("#"))
-        self.assertTrue(os.access(str(TOP / pairs["entry"]), os.X_OK))
-        wanted = {
-            "id": "plistconv-staged",
-            "language": "script",
-            "pass_filenames": "false",
-            "always_run": "true",
-        }
-        self.assertEqual({key: pairs[key] for key in wanted}, wanted)
+        for line in ("- id: plistconv-staged", "  language: script", "  always_run: true"):
+            self.assertIn(line, lines)
+        self.assertIn("  pass_filenames: false", lines)
+        self.assertIn("  entry: tools/plistconv-staged", lines)
 
 
 class Textconv(Repository):
@@ -181,13 +161,11 @@ class Textconv(Repository):
             self.assertEqual(run.stderr, b"")
 
     def test_lines_of_the_page_make_git_diff_readable(self):
-        lines = re.search(r"(?m)^    git config .*\n    printf .*$", PAGE)[0]
-        for shown in (PAGE, self.tool("textconv --help").stdout.decode()):
-            for line in lines.splitlines():
-                self.assertIn(line.strip() + "\n", shown)
+        command = re.search(r"(?m)^    (git config .*)$", PAGE)[1]
+        self.put(".gitattributes", re.search(r"(?m)^    (\*\.plist .*)$", PAGE)[1].encode())
         self.environment["GIT_CONFIG_GLOBAL"] = str(self.folder / ".git" / "global")
         self.environment["HOME"] = str(self.folder / ".git")
-        self.call(["sh", "-ec", lines])
+        self.call(["sh", "-ec", command])
         files = {
             "a b.plist": (TEXT, OTHER),
             "-x.plist": (XML, XML.replace(b"2.5", b"3.5")),
@@ -224,65 +202,73 @@ class Textconv(Repository):
 class Tree(Repository):
     """The property lists of a repository, found as the page says."""
 
-    def test_line_of_the_page_makes_a_repository_canonical_and_nothing_else(self):
+    def test_line_of_the_page_makes_canonical_what_the_hook_refuses_and_nothing_else(self):
         end = "xargs -0 -r plistconv-canonicalise --any --"
-        line = re.search(f"(?m)^    (git ls-files -z .*{end})$", PAGE)[1]
+        line = re.search(f"(?m)^    (plistconv-staged .*{end})$", PAGE)[1]
         self.call(["sh", "-ec", line])  # There is none.
-        made = {"a b.plist": TEXT, "-x.plist": TEXT, "sub/b.plist": b""}
-        left = {"word.txt": b"word", "sub/b.strings": b"a=b;", "c.plist/d": TEXT}
-        outside = self.put(self.folder.parent / f"{self.folder.name}.other", TEXT)
-        self.addCleanup(outside.unlink)
-        os.symlink(str(outside), str(self.folder / "link.plist"))
-        self.add({**made, **left})
+        self.git("config core.symlinks false")
+        names = "a b.plist", "-x.plist", "n\nl.PLIST", "[a]*.plist", ":x.plist", "sub/b.plist", "-"
+        made = {**dict.fromkeys(names, TEXT), "binary.plist": UNSORTED}
+        left = {
+            "word.txt": b"word",
+            "b.strings": b"a=b;",
+            "c.plist/d": TEXT,
+            "k.plist": TEXT,
+            "old.plist": XML,
+            "twice.plist": TWICE,
+            "conflict.plist": SIDES,
+            "old conflict.plist": XML.replace(b"<dict>", b"<dict>\n" + SIDES),
+            "lfs.plist": b"version https://git-lfs.github.com/spec/v1\noid sha256:0\nsize 1\n",
+            "annex.plist": b"/annex/objects/SHA256E-s1--0.plist\n",
+            "empty.plist": b"\n",
+            "edited.plist": TEXT,
+            "lines.plist": TEXT,
+            "link.plist": b"a b.plist",  # as git checks a link out if the system has none
+        }
+        attributes = b"/- plistconv\nk.plist -plistconv\nlines.plist text\n"
+        self.add({**made, **left, ".gitattributes": attributes})
+        blob = self.git("rev-parse :link.plist").decode().strip()
+        self.git(f"update-index --cacheinfo 120000,{blob},link.plist")
         self.commit()
-        self.git("branch update-Info.plist")
-        left["untracked.plist"] = TEXT
+        left.update({"untracked.plist": TEXT, "edited.plist": OTHER})
         self.put_all(left)
-        said = self.call(["sh", "-c", line], 123).stderr
-        self.assertIn(b"link.plist: is a symbolic link", said)
-        self.assertEqual(outside.read_bytes(), TEXT)
+        said = self.call(["sh", "-c", line], 123, cwd="sub").stderr.decode()
+        for why in (
+            "conflict.plist: refused 29 BadData at octet 1, a merge conflict: keep one side, and",
+            "old conflict.plist: refused 21 XmlForm at octet 0 (XML), a merge conflict: keep one",
+            "lfs.plist: a pointer of Git LFS, which has the file: it is not checked",
+            "annex.plist: a pointer of git-annex, which has the file: it is not checked",
+            "empty.plist: empty, which reads as an empty dictionary",
+            "edited.plist: an OpenStep text, which is not canonical; differs in the work tree",
+            "lines.plist: git changes its bytes, by the attribute text",
+            "twice.plist: refused 14 DuplicateKey at octet 3",
+        ):
+            self.assertIn(f"plistconv-staged: {why}", said)
+        self.assertIn("plistconv-canonicalise: ../old.plist: refused 21 XmlForm", said)
         for name, octets in made.items():
             self.assertEqual(self.content(name), self.canonical(octets))
         for name, octets in left.items():
             self.assertEqual(self.content(name), octets)
-        self.git("fsck --strict")
-        self.git("rev-parse update-Info.plist")
-        # A branch is a text of one word.
+
+    def test_branch_is_no_property_list_of_a_repository(self):
+        self.add({"a": b""})
+        self.commit()
+        self.git("branch update-Info.plist")
         self.refuses("one word or of none", "canonicalise .git/refs/heads/update-Info.plist")
         self.git("rev-parse update-Info.plist")
 
-    def test_lines_of_the_page_for_archives_give_equal_values_equal_bytes(self):
-        digests = re.search(r"(?m)^    (digests\(\) .*)\n    (diff .*)$", PAGE)
-        archive = re.search(r"(?m)^    (tar --sort=name (?:.*\\\n)?.*)$", PAGE)[1]
-        for name, octets in (("Old.app", TEXT), ("New.app", SAME)):
-            self.put_all({f"{name}/a b/x.plist": octets, f"{name}/program": name.encode()})
-        words = ["bash", "-c", "\n".join(digests.groups())]
-        if shutil.which("bash") is None:
-            self.skipTest("skipped: there is no bash")
-        for old, new in (
-            (b"a=b;", b"a=c;"),
-            (XML, XML.replace(b"2.5", b"3.5")),
-            (TWICE, TWICE + b" "),
-            (XML[:-9], XML[:-8]),
-            (ARCHIVE, ARCHIVE.replace(b"\x80\x01", b"\x80\x02")),
-        ):
-            self.put("Old.app/one.plist", old)
-            self.put("New.app/one.plist", old)
-            self.assertEqual(self.call(words).stdout, b"")
-            self.put("New.app/one.plist", new)
-            self.assertEqual(self.call(words, 1).stdout.count(b"one.plist"), 2)
-        os.makedirs(str(self.folder / "Empty.app"))
-        words[2] = words[2].replace("Old.app", "Empty.app")
-        self.assertNotIn(b"-", self.call(words, 1).stdout.replace(b"plistconv-", b""))
+    def test_archives_of_the_page_have_equal_bytes_if_folders_have_equal_content(self):
+        archive = re.search(r"(?m)^    (test -d .* tar (?:.*\\\n)?.*)$", PAGE)[1]
         if b"GNU tar" not in self.call(["tar", "--version"]).stdout:
             self.skipTest("skipped: there is no GNU tar")
-        self.call(["sh", "-ec", archive.replace("Example.app", "Old.app")])
+        one, two = (self.put(f"Example.app/{name}", b"program") for name in ("one", "two"))
+        self.call(["sh", "-ec", archive])
         first = self.content("example.tar")
-        os.utime(str(self.folder / "Old.app" / "program"), (1, 1))
-        (self.folder / "Old.app" / "program").chmod(0o600)
-        self.call(["sh", "-ec", archive.replace("Example.app", "Old.app")])
+        self.call(["sh", "-ec", archive.replace("Example.app", "None.app")], 1)
         self.assertEqual(self.content("example.tar"), first)
-
-
-if __name__ == "__main__":
-    unittest.main()
+        two.unlink()
+        os.link(str(one), str(two))
+        os.utime(str(one), (1, 1))
+        one.chmod(0o600)
+        self.call(["sh", "-ec", archive])
+        self.assertEqual(self.content("example.tar"), first)

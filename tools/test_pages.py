@@ -1,8 +1,5 @@
-"""Tests what the pages say about the commands, and how many jobs `make` runs."""
-from __future__ import annotations
-
+"""Tests what the pages say about the commands."""
 import re
-import unittest
 
 from testing import COMMANDS, TOP, Case
 
@@ -22,21 +19,35 @@ class Pages(Case):
 
     def test_lines_for_git_are_the_same_everywhere(self):
         recipes, manual = page("docs/RECIPES.md"), page("man/plistconv-tools.1")
-        lines = [
-            re.search(f"(?m)^    ({start}.*)$", recipes)[1]
-            for start in ("git config", "printf", "plistconv-staged", "git ls-files")
-        ]
-        self.assertEqual(lines[1], r"printf '\n%s\n' '*.plist -text diff=plist' >> .gitattributes")
-        for line in lines:
-            self.assertIn(f"\n{line}\n", manual)
-        self.assertIn("\n.B *.plist -text diff=plist\n", page("man/plistconv.1"))
-        for name, line in (
-            ("textconv", lines[0]),
-            ("textconv", lines[1]),
-            ("staged", lines[2]),
-            ("canonicalise", lines[3]),
+        attributes = "*.plist -text diff=plist"
+        for text in (manual, page("man/plistconv.1")):
+            self.assertIn(f"\n.B {attributes}\n", text)
+        for start, *names in (
+            ("git config", "textconv"),
+            (re.escape(attributes), "textconv"),
+            ("plistconv-staged --install", "staged"),
+            ("plistconv-staged --all --print0", "staged", "canonicalise"),
         ):
-            self.assertIn(f"  {line}\n", self.tool(f"{name} --help").stdout.decode())
+            line = re.search(f"(?m)^    ({start}.*)$", recipes)[1]
+            self.assertRegex(manual, rf"(?m)^(\.B )?{re.escape(line)}$")
+            for name in names:
+                self.assertIn(f"  {line}\n", self.tool(f"{name} --help").stdout.decode())
+
+    def test_no_printed_command_empties_or_removes_a_file(self):
+        pages = ["README.md", "docs/RECIPES.md", "man/plistconv.1", "man/plistconv-tools.1"]
+        pages += ["crates/plist_explain/src/refusals.rt", "crates/plist_convert/src/help.rt"]
+        texts = {name: page(name) for name in pages}
+        texts.update({it: self.tool(f"{it} --help").stdout.decode() for it in COMMANDS})
+        changing = r"\brm [A-Za-z]|git checkout|\btouch [A-Z]|> (OUT|key|a)\b|>> \.|from-xml - <"
+        readme = re.search("(?s)cd .*?\n## ", texts.pop("README.md"))[0]
+        for name, text in {**texts, "README.md": readme.replace("> a.plist", "")}.items():
+            self.assertNotRegex(text, changing, name)
+        for name in [*pages[4:], "canonicalise"]:
+            self.assertIn("plistconv-canonicalise --from-xml -o ", texts[name])
+
+    def test_no_comment_follows_a_command(self):
+        for name in ("README.md", "docs/RECIPES.md", "scripts/INSTALL.in"):
+            self.assertNotRegex(page(name), r"(?m)^    .*(^| )#", name)
 
     def test_sample_for_the_framework_has_what_it_needs(self):
         manual, hooks = page("man/plistconv-tools.1"), page(".pre-commit-hooks.yaml")
@@ -62,20 +73,4 @@ class Pages(Case):
             words = "plistconv-canonicalise --from-xml", "plistutil -i", "plutil -convert"
             places = [text.index(word) for word in words]
             self.assertEqual(places, sorted(places), name)
-            self.assertRegex(text, r"plutil -convert binary1 -o OUT IN *[(#] ?macOS")
-
-
-class Jobs(Case):
-    """scripts/jobs.sh"""
-
-    def test_jobs_follow_memory_and_processors(self):
-        processors = int(self.call(["nproc"]).stdout)
-        few = (1, 1), (8_000_000, 1), (16_300_000, 2), (24_700_000, 4)
-        for kilobytes, jobs in (*few, (10**12, processors)):
-            memory = self.put("memory", b"MemFree: 7 kB\nMemTotal:       %d kB\n" % kilobytes)
-            printed = self.call([str(TOP / "scripts" / "jobs.sh"), str(memory)]).stdout
-            self.assertEqual(printed, b"%d\n" % min(jobs, processors))
-
-
-if __name__ == "__main__":
-    unittest.main()
+            self.assertRegex(text, r"plutil -convert binary1 -o OUT IN .*macOS")

@@ -1,53 +1,44 @@
 """Tests plistconv-staged, the pre-commit hook: what it checks and what it says."""
-from __future__ import annotations
-
 import os
 import plistlib
 import re
 import shutil
-import unittest
 
-from testing import ARCHIVE, OTHER, SAME, TEXT, TWICE, XML, Repository
+from testing import ARCHIVE, OTHER, TEXT, TOP, TWICE, XML, Repository
 
+MANUAL = (TOP / "man" / "plistconv-tools.1").read_text(encoding="utf-8").replace("\\-", "-")
+# The attributes that end what makes git change bytes.
+(ENDING,) = re.findall(r"(?m)^\.B Old\.plist (-text .*)$", MANUAL)
 
 OLD = "an OpenStep text, which is not canonical"
 UNSORTED = plistlib.dumps({"b": "a", "a": "b"}, fmt=plistlib.FMT_BINARY, sort_keys=False)
+NAMES = ["a folder/blank .plist", "n\nl.plist", "-dash.plist", "caf\u00e9.plist", "UPPER.PLIST"]
 FAULTS = (
-    ("a folder/blank .plist", TEXT, OLD),
-    ("n\nl.plist", TEXT, OLD),
-    ("-dash.plist", TEXT, OLD),
-    ("caf\u00e9.plist", b"a=b;", OLD),
-    ("UPPER.PLIST", TEXT, OLD),
-    ("[a]*?.plist", TEXT, OLD),
-    (":(top)x.plist", TEXT, OLD),
-    ("empty.plist", b"", OLD),
+    *((name, TEXT, OLD) for name in [*NAMES, "[a]*?.plist", ":(top)x.plist"]),
+    ("empty.plist", b"", "empty, which reads as an empty dictionary"),
     ("binary.plist", UNSORTED, "not canonical"),
     ("x.plist", XML, "refused 21 XmlForm at octet 0 (XML)"),
     ("archive.plist", ARCHIVE, "refused 9 UidObject at object 2"),
     ("twice.plist", TWICE, "refused 14 DuplicateKey at octet 3"),
+)
+# The line after those of the files.
+END = (
+    "plistconv-staged: {} refused: plistconv-canonicalise FILE.. makes files canonical (texts with "
+    "--any, which loses comments; XML with --from-xml); man plistconv-tools has the attributes "
+    "that keep bytes or exclude files\n"
 )
 
 
 class Staged(Repository):
     """The hook."""
 
-    def paste(self, said: str, starts: str = "so that|to mend") -> list[str]:
-        """Runs the commands in these lines of the hook, and returns them."""
-        found = re.findall(
-            rf"(?m)^plistconv-staged: (?:{starts}).* in the top folder.*?: (.*)$", said
-        )
-        if shutil.which("bash") is None:
-            self.skipTest("skipped: there is no bash")
-        for command in found:
-            self.call(["bash", "-ec", command])
-        return found
-
     def test_every_property_list_of_the_index_is_checked(self):
         self.add({"good.plist": self.canonical(TEXT)})
         self.prints(b"", "staged")
         for name, octets, why in FAULTS:
             self.add({name: octets})
-            self.refuses(f"plistconv-staged: {name}: {why}".replace("\n", r"\n"), "staged")
+            line = f"{name}: {why}".replace("\n", r"\n")
+            self.assertEqual(self.says("staged"), f"plistconv-staged: {line}\n{END.format(1)}")
             self.git("--literal-pathspecs rm -qf --", name)
             self.prints(b"", "staged")
 
@@ -82,14 +73,9 @@ class Staged(Repository):
             self.assertIn("sub/a.plist: an OpenStep text", self.commit(status=1, env=env))
         for option in ("literal", "noglob", "glob"):
             self.git(f"--{option}-pathspecs commit -qm one", status=1)
-        for setting in (
-            "diff.noprefix true",
-            "diff.relative true",
-            "diff.renames copies",
-            "core.quotePath true",
-            "diff.external false",
-        ):
-            self.git(f"config {setting}")
+        plain = "diff.noprefix", "diff.relative", "core.quotePath"
+        for setting in (*plain, "diff.renames copies", "diff.external false"):
+            self.git(f"config {setting}" if " " in setting else f"config {setting} true")
         self.assertIn("sub/a.plist: an OpenStep text", self.commit(status=1))
 
     def test_hook_runs_in_every_kind_of_commit(self):
@@ -141,66 +127,25 @@ class Staged(Repository):
 
     def test_many_files_are_read_by_one_git(self):
         self.add({f"{number}.plist": b"{a=%d;}" % number for number in range(40)})
-        script = b'#!/bin/sh\necho "$1" >> "$CALLS"\nPATH=${PATH#*:} exec git "$@"\n'
-        self.put(".git/bin/git", script).chmod(0o755)
+        self.script(".git/bin/git", 'echo "$1" >> "$CALLS"\nPATH=${PATH#*:} exec git "$@"')
         said = self.says("staged", env={"CALLS": str(self.folder / "calls")})
         self.assertEqual(said.count(": an OpenStep text"), 40)
         calls = self.content("calls").split()
         self.assertLess(len(calls), 12)
         self.assertEqual(calls.count(b"cat-file"), 1)
 
-    def test_texts_that_people_keep_are_checked_only_if_asked_for(self):
-        names = "Localizable.strings", "Info.txt", "a.plist.orig"
-        self.add(dict.fromkeys(names, b"/* for translators */ a = b;"))
-        self.prints(b"", "staged")
-        self.add({".gitattributes": b"*.strings plistconv\n"})
-        said = self.says("staged")
-        self.assertIn("Localizable.strings: an OpenStep text", said)
-        self.assertIn(", which loses comments and the order of keys: plistconv-canonicalise", said)
-
     def test_attributes_of_the_index_leave_files_out_and_add_some(self):
-        self.add({"k.plist": ARCHIVE, "settings": TEXT})
-        line = "printf '\\n%s\\n' '/k.plist -plistconv' >> "
-        self.refuses(f"to commit k.plist as it is, in the top folder: {line}", "staged")
-        self.put(".gitattributes", b"k.plist -plistconv\nsettings plistconv\n")
-        self.refuses("k.plist: refused 9", "staged")
+        texts = "Localizable.strings", "Info.txt", "a.plist.orig"
+        self.add({"k.plist": ARCHIVE, **dict.fromkeys(texts, b"/* for translators */ a = b;")})
+        self.put(".gitattributes", b"k.plist -plistconv\n*.strings plistconv\n")
+        why = "k.plist: refused 9 UidObject at object 2"
+        self.assertEqual(self.says("staged"), f"plistconv-staged: {why}\n{END.format(1)}")
         self.add()
-        said = self.says("staged")
-        self.assertIn("settings: an OpenStep", said)
-        self.assertNotIn("k.plist", said)
+        why = f"Localizable.strings: {OLD}"
+        self.assertEqual(self.says("staged"), f"plistconv-staged: {why}\n{END.format(1)}")
         self.hook()
-        self.git("rm -q --cached settings")
+        self.git("rm -q --cached Localizable.strings")
         self.commit()
-
-    def test_line_of_the_hint_leaves_out_the_file_that_it_names(self):
-        names = [
-            "a b.plist",
-            "[ab].plist",
-            "b.plist",
-            "#x.plist",
-            "!x.plist",
-            'q"\\.plist',
-            "n\nl.plist",
-            "sub/\u00e9 .plist",
-            "*.plist",
-            os.fsdecode(b"caf\xe9.plist"),
-        ]
-        self.add(dict.fromkeys(names, ARCHIVE))
-        said = self.says("staged")
-        lines = re.findall(r"(?m)^.* as it is, in the top folder: (.*)$", said)
-        self.assertEqual(len(lines), len(names))
-        for line in lines:
-            self.call(["bash", "-ec", line])
-            left = self.says("staged").count(": refused 9")
-            self.assertEqual(left, len(names) - 1, line)
-            self.add({".gitattributes": b""})
-        self.paste(said, "to commit")
-        self.prints(b"", "staged")
-        # Where a nearer file asks for the check.
-        self.add({"sub/.gitattributes": b"*.plist plistconv"})
-        (command,) = self.paste(self.says("staged"), "to commit")
-        self.assertIn(" >> sub/.gitattributes && ", command)
-        self.prints(b"", "staged")
 
     def test_attributes_that_change_bytes_are_refused(self):
         value = self.canonical(b"(" + b"word," * 100 + b'"\n\r\n", ' * 99 + b'"$Id$")')
@@ -218,13 +163,9 @@ class Staged(Repository):
         ):
             self.add({".gitattributes": f"* {line}\nSettings plistconv".encode()})
             said = self.says("staged --all")
-            self.assertNotIn("as it is", said)  # (it may be broken already)
             for file in ("a.plist", "Settings"):
                 self.assertIn(f"{file}: git changes its bytes, by the attribute {name}\n", said)
-            more = " -ident" if "ident" in name else ""
-            files = "/Settings", "/a.plist" if more else "*.plist"
-            for command, of in zip(self.paste(said), files):
-                self.assertIn(f"'{of} -text{more} diff=plist' >> .gitattributes && git ", command)
+            self.put(".gitattributes", f"* {line}\nSettings plistconv\n* {ENDING}".encode())
             self.keeps(value, line)
         for line in (
             "* text=auto eol=crlf\nSettings plistconv\n",
@@ -239,61 +180,40 @@ class Staged(Repository):
     def keeps(self, value: bytes, why: str) -> None:
         """Expects that no file is refused, and that git does keep the bytes."""
         self.add()
+        self.git("add --renormalize .")
         self.prints(b"", "staged --all")
         self.git("-c core.autocrlf=false checkout-index --prefix=out/ -a")
         self.assertEqual(self.content("out/a.plist"), value, why)
         shutil.rmtree(str(self.folder / "out"))
         self.git("rm -rqf --cached .")
 
-    def test_line_for_attributes_is_added_where_it_wins(self):
-        name, value = "sub/a b/x.plist", self.canonical(b'("\n\r\n", "\r\n", "\r\n")')
-        top, sub, info = ".gitattributes", "sub/.gitattributes", ".git/info/attributes"
-        macro = {top: b"[attr]lines text\n", "sub/a b/.gitattributes": b"x.* lines"}
-        self.git("config core.attributesFile", str(self.folder / ".git" / "mine"))
-        for files, wanted in (
-            ({top: b"* text"}, top),
-            ({top: b"* -text", sub: b"*.plist text"}, sub),
-            ({top: b"* text", sub: b"* -ident"}, top),
-            (macro, "'sub/a b/.gitattributes'"),
-            ({info: b"* text", sub: b"* text"}, info),
-            ({".git/mine": b"*.plist text"}, top),
-        ):
-            self.add({name: value, **files})
-            (command,) = self.paste(self.says("staged"))
-            line = f"printf '\\n%s\\n' '*.plist -text diff=plist' >> {wanted} && git"
-            self.assertIn(line, command)
-            self.assertEqual(self.git("cat-file blob", f":{name}"), value, files)
-            self.prints(b"", "staged")
-            for path in files:
-                (self.folder / path).unlink()
-            self.git("rm -rqf --cached .")
-
     def test_encoded_text_is_made_canonical_after_its_attribute(self):
-        self.put("sub/b.plist", b"{b = a;}")
         for encoding in ("UTF-16", "UTF-16LE-BOM"):
-            line = f"/a.plist working-tree-encoding={encoding}".encode()
-            self.add({"a.plist": '\ufeff{b = "é";}'.encode("utf-16-le"), ".gitattributes": line})
-            said = self.says("staged")
-            self.assertIn("a.plist: git changes its bytes, by the attribute working-tree-enc", said)
-            self.assertEqual(len(self.paste(said)), 2)
-            for name in ("a.plist", "sub/b.plist"):
-                self.assertEqual(self.git(f"cat-file blob :{name}"), self.content(name))
-            self.prints(b"", "staged")
+            line = f"a.plist working-tree-encoding={encoding}\n"
+            octets = '\ufeff{b = "é";}'.encode("utf-16-le")
+            self.add({"a.plist": octets, ".gitattributes": line.encode()})
+            why = "git changes its bytes, by the attribute working-tree-encoding"
+            self.refuses(f"a.plist: {why}\n", "staged --print0")
+            self.add({".gitattributes": f"{line}a.plist {ENDING}".encode()})
+            self.git("add --renormalize .")
+            self.refuses("a.plist: an OpenStep", "staged --print0", printed=b"a.plist\0")
+            self.tool("canonicalise --any a.plist")
+            self.add()
+            self.prints(b"", "staged --print0")
 
-    def test_conflicts_and_pointers_are_named(self):
-        sides = b"<<<<<<< HEAD\na = b;\n=======\na = c;\n>>>>>>> other\n"
-        for octets in (b"{\n" + sides + b"}\n", XML.replace(b"<dict>", b"<dict>\n" + sides)):
-            self.add({"a.plist": octets})
-            said = self.says("staged")
-            why = "^plistconv-staged: a.plist: refused .*, a merge conflict: keep one"
-            self.assertRegex(said, why)
-            self.assertEqual(said.count("\n"), 1)
-        pointer = b"version https://git-lfs.github.com/spec/v1\noid sha256:0\nsize 1\n"
-        self.add({"a.plist": pointer})
-        said = self.says("staged")
-        self.assertIn("a.plist: a pointer of Git LFS, which has the file itself", said)
-        self.paste(said, "to commit")
-        self.prints(b"", "staged")
+    def test_nothing_is_written_to_the_repository(self):
+        self.add({"a.plist": TEXT, "sub/b.plist": TEXT})
+        self.put(".git/index.lock", b"")
+        left = self.left()
+        for words in ("", " --all", " --all --print0"):
+            self.assertIn(END.format(2), self.says(f"staged{words}"))
+        self.assertEqual(self.left(), left)
+
+    def test_file_that_is_not_merged_is_status_2(self):
+        self.add({"a.plist": TEXT})
+        rows = "".join(f"100644 {'1' * 40} {stage}\tb.plist\n" for stage in (1, 2, 3))
+        self.git("update-index --index-info", input=rows.encode())
+        self.refuses("staged: b.plist: is not merged yet\n", "staged --all", status=2)
 
     def test_bare_repository_is_checked_at_its_head(self):
         files = {"sub/a.plist": TEXT, "sub/b.plist": self.canonical(TEXT), "k.plist": ARCHIVE}
@@ -302,11 +222,12 @@ class Staged(Repository):
         self.git("clone -q --bare . bare.git")
         said = self.says("staged --all", cwd="bare.git")
         named = re.findall(r"(?m)^plistconv-staged: (\S*):", said)
-        self.assertEqual(named, ["sub/a.plist", "sub/b.plist"])
-        self.assertNotIn("in the work tree", said)
-        why = "a bare repository has no index: give --all"
-        self.refuses(why, "staged", status=2, cwd="bare.git")
-        self.paste(self.says("staged --all"))
+        self.assertEqual(named, ["sub/b.plist", "sub/a.plist"])
+        self.assertNotIn("in the work tree\n", said)
+        why = "a bare repository has no index and no work tree: give --all alone"
+        for words in ("", " --all --print0"):
+            self.refuses(why, f"staged{words}", status=2, cwd="bare.git")
+        self.add({"sub/a.plist": self.canonical(TEXT), ".gitattributes": b"k.plist -plistconv"})
         self.commit()
         self.git("push -q bare.git HEAD")
         self.prints(b"", "staged --all", cwd="bare.git")
@@ -321,36 +242,14 @@ class Staged(Repository):
         self.commit()
         self.prints(b"", "staged")
 
-    def test_what_is_said_mends_the_files(self):
-        files = {
-            "a b.plist": TEXT,
-            "-c'.plist": SAME,
-            "x.plist": XML,
-            "$(no).plist": b"a=b;",
-            "[ab].plist": TEXT,
-            ":x.plist": UNSORTED,
-            "empty.plist": b"",
-            "n\n'\\.plist": UNSORTED,
-            "comment.plist": b"// {}",
-            "-": UNSORTED,
-            os.fsdecode(b"caf\xe9.plist"): UNSORTED,
-        }
-        self.add({**files, ".gitattributes": b"/- plistconv"})
-        self.put("b.plist", b"not staged")
-        self.hook()
-        said = self.commit(status=1)
-        self.assertEqual(said.count("loses comments"), 2)
-        self.assertEqual(len(self.paste(said, "to mend")), 3)
-        self.commit()
-        self.assertIn(b"?? b.plist", self.git("status --porcelain"))
-
     def test_partly_staged_files_are_named(self):
         self.add(dict.fromkeys(("a.plist", "b.plist", "c.plist"), TEXT))
         self.put("b.plist", OTHER)
         (self.folder / "c.plist").unlink()
-        more = "differs in the work tree, and git add stages all of it"
-        named = re.findall(f"(?m)^plistconv-staged: (.*): {more}$", self.says("staged"))
-        self.assertEqual(named, ["b.plist", "c.plist"])
+        more = "an OpenStep text, which is not canonical; differs in the work tree"
+        run = self.tool("staged --print0", status=1)
+        named = re.findall(f"(?m)^plistconv-staged: (.*): {more}$", run.stderr.decode())
+        self.assertEqual((named, run.stdout), (["b.plist", "c.plist"], b"a.plist\0"))
 
     def test_relative_folders_in_the_variables_of_git_are_kept(self):
         attributes = {"work/sub/.gitattributes": b"k.plist -plistconv\n"}
@@ -377,7 +276,3 @@ class Staged(Repository):
             self.skipTest("skipped: there is no /dev/full")
         with open("/dev/full", "wb") as full:
             self.tool("staged", status=2, stdout=full, stderr=full, env=env)
-
-
-if __name__ == "__main__":
-    unittest.main()

@@ -1,8 +1,6 @@
 #!/usr/bin/env python3
-"""Tests what holds for all of the commands, and runs all tests: PLISTCONV=./plistconv python3
-tools/test_tools.py"""
-from __future__ import annotations
-
+"""Tests what holds for all of the commands, and runs all tests, or those of some modules:
+PLISTCONV=./plistconv python3 tools/test_tools.py [test_git..]"""
 import ast
 import hashlib
 import importlib
@@ -12,20 +10,8 @@ import signal
 import sys
 import unittest
 
-from testing import (
-    COMMANDS,
-    OTHER,
-    PRINTED,
-    PROGRAM,
-    SAME,
-    TEXT,
-    TOOLS,
-    TWICE,
-    XML,
-    XML_PRINTED,
-    Case,
-    binary,
-)
+from testing import COMMANDS, OTHER, PRINTED, PROGRAM, SAME, TEXT, TOOLS, TWICE
+from testing import XML, XML_PRINTED, Case, binary
 
 WORDS = {
     "canonicalise": ["-"],
@@ -84,33 +70,27 @@ class EveryCommand(Case):
             if name != "where":
                 self.refuses(why, name, *WORDS[name], status=2, env=env, input=TEXT)
 
-    def test_full_device_for_output_is_status_2_and_said(self):
-        if not os.path.exists("/dev/full"):
-            self.skipTest("skipped: there is no /dev/full")
-        for name in COMMANDS:
-            for words in [["--help"], ["--version"], *([WORDS[name]] if name != "staged" else [])]:
-                for env in ({}, {"PYTHONUNBUFFERED": "1"}):
-                    with open("/dev/full", "wb") as full:
-                        said = self.says(name, *words, status=2, stdout=full, input=TEXT, env=env)
-                    self.assertIn("standard output cannot be written: No space", said)
-
-    def closed(self, files: str, name: str, *words, status: int) -> bytes:
-        """Runs a command after the shell closed files, and returns its messages."""
+    def redirected(self, files: str, name: str, *words, status: int) -> bytes:
+        """Runs a command after the shell opened or closed files, and returns its messages."""
         command = ["sh", "-c", f'exec "$@" {files}', "sh", sys.executable]
         path = str(TOOLS / f"plistconv-{name}")
         return self.call([*command, path, *words], status, input=TEXT).stderr
 
-    def test_closed_output_is_status_2_and_said(self):
+    def test_output_that_cannot_be_written_is_status_2_and_said(self):
+        ways = {">&-": b"Bad file descriptor", "> /dev/full": b"No space left on device"}
+        if not os.path.exists("/dev/full"):
+            self.skipTest("skipped: there is no /dev/full")
         for name in COMMANDS:
-            for words in [WORDS[name], ["--help"]] if name != "staged" else [["--help"]]:
-                said = self.closed(">&-", name, *words, status=2)
-                self.assertIn(b"standard output cannot be written: Bad file descriptor", said)
+            for words in [["--help"], ["--version"], *([WORDS[name]] if name != "staged" else [])]:
+                for files, why in ways.items():
+                    said = self.redirected(files, name, *words, status=2)
+                    self.assertIn(b"standard output cannot be written: " + why, said)
 
     def test_closed_error_and_input_write_into_no_file(self):
         self.put("b.plist", SAME)
-        self.closed("<&- >&- 2>&-", "canonicalise", "b.plist", "none", status=1)
+        self.redirected("<&- >&- 2>&-", "canonicalise", "b.plist", "none", status=1)
         self.assertEqual(self.content("b.plist"), self.canonical(SAME))
-        said = self.closed("<&-", "digest", "-", status=1)
+        said = self.redirected("<&-", "digest", "-", status=1)
         self.assertIn(b"-: Bad file descriptor", said)
 
     def test_reader_that_goes_away_gets_no_traceback(self):
@@ -122,14 +102,35 @@ class EveryCommand(Case):
             self.assertEqual(run.stderr, b"")
 
     def test_interrupt_prints_no_traceback(self):
-        # While the modules are read, and while the program runs.
-        lines = b"import os, signal, time\nos.kill(os.getpid(), signal.SIGINT)\ntime.sleep(9)\n"
-        env = {"PYTHONPATH": str(self.put("modules/argparse.py", lines).parent)}
-        for name in COMMANDS:
-            self.prints(b"", name, *WORDS[name], status=-signal.SIGINT, env=env, input=TEXT)
+        # While the first and other modules are read, and while the program runs.
+        lines = b"import os, time\nos.kill(os.getpid(), 2)\ntime.sleep(9)\n"
+        for module in ("signal", "argparse"):
+            path = self.put(f"{module}/{module}.py", lines)
+            env = {"PYTHONPATH": str(path.parent)}
+            for name in COMMANDS:
+                self.prints(b"", name, *WORDS[name], status=-signal.SIGINT, env=env, input=TEXT)
         env = self.program("kill -INT $PPID")
         for name in ("canonicalise", "digest", "diff", "textconv"):
             self.prints(b"", name, *WORDS[name], status=130, env=env, input=TEXT)
+
+    def test_what_nobody_expects_is_status_2_in_one_line(self):
+        # While the modules are read, and in a command.
+        path = self.put("modules/argparse.py", b"raise MemoryError")
+        env = {"PYTHONPATH": str(path.parent)}
+        for name in COMMANDS:
+            said = self.says(name, *WORDS[name], status=2, env=env, input=TEXT)
+            self.assertEqual(said, f"plistconv-{name}: out of memory\n")
+        fails = "import hashlib\nhashlib.sha256 = lambda octets: 1 / 0"
+        said = self.patched(fails, "a", tool="digest", status=2)
+        self.assertEqual(said, b"plistconv-digest: ZeroDivisionError: division by zero\n")
+        no_threads = "import threading\nthreading.Thread.start = None"
+        self.assertEqual(self.patched(no_threads, "a", "other", tool="digest"), b"")
+        self.assertEqual(self.patched(no_threads, "a", "other", tool="diff", status=1), b"")
+
+    def test_names_show_as_they_are_whatever_the_encoding(self):
+        env = {"PYTHONIOENCODING": "ascii", "LC_ALL": "C"}
+        self.refuses("plistconv-digest: é: No such file", "digest é", status=1, env=env)
+        self.refuses("error: there is no option --é\n", "digest --é", status=2, env=env)
 
     def test_texts_that_are_too_long(self):
         # Twenty-two arrays that each contain the one before twice print more than 64 MB.
@@ -152,13 +153,12 @@ class EveryCommand(Case):
         """Returns what plistconv-textconv prints of a text before the line with its digest."""
         return self.tool("textconv", *words, **more).stdout.partition(b"Bytes: SHA-256 ")[0]
 
-    def test_no_temporary_folder_is_needed(self):
-        self.environment["TMPDIR"] = "/none"
-        self.assertEqual(self.textconv("a"), PRINTED)
-        self.tool("digest a")
-        self.tool("diff a other", status=1)
-        self.tool("canonicalise --from-xml a")
-        self.assertEqual(self.left(), ["a", "other"])
+    def test_temporary_files_have_no_name(self):
+        self.environment["TMPDIR"] = str(self.folder)
+        env = self.program('ls -A > "$0.seen"; exec "$PROGRAM" "$@"')
+        self.tool("diff a other", status=1, env=env)
+        self.assertEqual(self.content("bin/program.seen"), b"a\nbin\nother\n")
+        self.assertEqual(self.textconv("a", env={"TMPDIR": "/none"}), PRINTED)
 
     def test_no_module_of_this_folder_is_run(self):
         for module in ("plistlib", "argparse", "unicodedata", "plistconv_tools"):
@@ -186,34 +186,28 @@ class EveryCommand(Case):
         for folder in (checkout, installed):
             prints(folder, status=2)
             # Somebody else's program, which is not called.
-            other = self.put(folder / "bin" / "plistconv", b"#!/bin/sh\necho other\n")
-            other.chmod(0o755)
+            self.script(folder / "bin" / "plistconv", "echo other")
             prints(folder, status=2)
         for path, folder, is_there in (
-            (self.folder / "one" / "bin", checkout, False),
-            (checkout, checkout, True),
-            (self.folder / "two" / "bin", installed, True),
-            (installed, installed, False),
+            ("one/bin", checkout, False),
+            ("one/share/plistconv", checkout, True),
+            ("two/bin", installed, True),
+            ("two/share/plistconv", installed, False),
+            ("bin", checkout, True),
+            ("bin", installed, True),
         ):
-            path.mkdir(exist_ok=True)
-            shutil.copy(PROGRAM, str(path / "plistconv"))
+            (self.folder / path).mkdir(exist_ok=True)
+            program = shutil.copy(PROGRAM, str(self.folder / path / "plistconv"))
             prints(folder, status=0 if is_there else 2)
-            prints(folder, path=str(path))
-            (path / "plistconv").unlink()
-        shutil.copy(PROGRAM, str(self.folder / "bin" / "plistconv"))
-        for folder in (checkout, installed):
-            prints(folder)
+            prints(folder, path=str(self.folder / path))
+            os.unlink(program)
 
     def test_files_that_are_not_there_or_folders_are_said(self):
-        for name, more, status in (
-            ("canonicalise", [], 1),
-            ("digest", [], 1),
-            ("diff", ["a"], 2),
-            ("textconv", [], 2),
-            ("where", ["1"], 1),
-        ):
+        statuses = {"canonicalise": 1, "digest": 1, "diff": 2, "textconv": 2, "where": 1}
+        for name, status in statuses.items():
             for file, why in (("none", "No such file"), ("", "No such file"), (".", "")):
-                self.refuses(f"plistconv-{name}: {file}: {why}", name, file, *more, status=status)
+                words = [file, *WORDS[name][1:]]
+                self.refuses(f"plistconv-{name}: {file}: {why}", name, *words, status=status)
 
     def test_names_that_are_not_utf8_or_begin_with_a_dash(self):
         digest = hashlib.sha256(self.canonical(TEXT)).hexdigest().encode()
@@ -233,11 +227,10 @@ class EveryCommand(Case):
 
 
 def main() -> int:
-    """Runs all tests, and reports which fail and which are skipped."""
+    """Runs the tests of these modules, or all, and reports which fail and which are skipped."""
     load, result = unittest.defaultTestLoader.loadTestsFromModule, unittest.TestResult()
-    names = sorted(path.stem for path in TOOLS.glob("test_*.py") if path.stem != "test_tools")
-    for module in (sys.modules[__name__], *map(importlib.import_module, names)):
-        load(module).run(result)
+    for name in sys.argv[1:] or sorted(path.stem for path in TOOLS.glob("test_*.py")):
+        load(importlib.import_module(name)).run(result)
     for test, trace in result.errors + result.failures:
         print(f"{test.id()} fails:\n{trace}")
     for test, why in result.skipped:

@@ -1,8 +1,5 @@
 """Tests plistconv-where."""
-from __future__ import annotations
-
 import re
-import unittest
 
 from testing import PROGRAM, TEXT, Case, binary, trailer
 
@@ -176,7 +173,3 @@ class Objects(Case):
         table = b"".join(begin.to_bytes(4, "big") for begin in [8, *begins])
         self.put("f", body + table + trailer(b"\4\2", many + 1, 0, len(body)))
         self.tool("where f object 0")
-
-
-if __name__ == "__main__":
-    unittest.main()

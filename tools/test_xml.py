@@ -1,14 +1,11 @@
 """Tests that XML is converted if plistlib reads it correctly, and refused otherwise."""
-from __future__ import annotations
-
 import base64
 import datetime
 import plistlib
-import unittest
 
 import plistconv_xml
 
-from testing import OTHER, PROGRAM, TEXT, XML, Case
+from testing import OTHER, TEXT, XML, Case
 
 HEAD = (
     b'<?xml version="1.0" encoding="UTF-8"?>\n<!DOCTYPE plist PUBLIC "-//Apple//DTD PLIST 1.0//EN" '
@@ -140,20 +137,6 @@ class Xml(Case):
         octets = document("<array>" * 513 + "</array>" * 513)
         self.refuses("-: refused 16 TooDeep", "canonicalise --from-xml -", input=octets)
 
-    def test_files_in_their_places(self):
-        path = self.put("a", XML)
-        path.chmod(0o600)
-        why = "a: refused 21 XmlForm at octet 0 (XML); left as it is"
-        self.refuses(why, "canonicalise a")
-        self.assertEqual(path.read_bytes(), XML)
-        self.prints(b"", "canonicalise --from-xml a")
-        self.assertEqual(self.call([PROGRAM, "check", "a"]).stdout, b"canonical\n")
-        self.assertEqual(path.stat().st_mode & 0o777, 0o600)
-
     def test_other_files_are_converted_with_from_xml_too(self):
         self.assertEqual(self.converted(TEXT), self.canonical(TEXT))
         self.assertEqual(self.converted(self.canonical(OTHER)), self.canonical(OTHER))
-
-
-if __name__ == "__main__":
-    unittest.main()

@@ -1,11 +1,8 @@
 """Shared code of the tests of the commands: a folder for each test, and calls of
 the commands in it."""
-from __future__ import annotations
-
 import os
 import shlex
 import shutil
-import stat
 import subprocess
 import sys
 import tempfile
@@ -61,10 +58,7 @@ ENVIRONMENT = {
     "GIT_CONFIG_GLOBAL": os.devnull,
     "GIT_CONFIG_SYSTEM": os.devnull,
     "GIT_CONFIG_NOSYSTEM": "1",
-    "GIT_AUTHOR_NAME": "a",
-    "GIT_AUTHOR_EMAIL": "a@b",
-    "GIT_COMMITTER_NAME": "a",
-    "GIT_COMMITTER_EMAIL": "a@b",
+    **{f"GIT_{who}_{it}": "a@b" for who in ("AUTHOR", "COMMITTER") for it in ("NAME", "EMAIL")},
 }
 
 
@@ -124,13 +118,17 @@ class Case(unittest.TestCase):
         self.assertIn(said.encode(), run.stderr, (command, words))
         self.assertEqual(run.stdout, printed, (command, words))
 
-    def program(self, script: str) -> dict[str, str]:
+    def script(self, name: str, lines: str) -> Path:
+        """Makes a shell script."""
+        path = self.put(name, f"#!/bin/sh\n{lines}\n".encode())
+        path.chmod(0o755)
+        return path
+
+    def program(self, lines: str) -> dict:
         """Returns the variable that makes this shell script the program. In it "$PROGRAM" is the
         real one."""
-        head = f"#!/bin/sh\nPROGRAM={shlex.quote(PROGRAM)}\n"
-        path = self.put("bin/program", f"{head}{script}\n".encode())
-        path.chmod(0o755)
-        return {"PLISTCONV": str(path)}
+        lines = f"PROGRAM={shlex.quote(PROGRAM)}\n{lines}"
+        return {"PLISTCONV": str(self.script("bin/program", lines))}
 
     def patched(self, lines: str, *words, status=0, tool="canonicalise", **more) -> bytes:
         """Runs a command after these lines of Python, and returns its messages."""
@@ -152,16 +150,6 @@ class Case(unittest.TestCase):
             self.skipTest("skipped: there is no git")
         return self.call(["git", *command.split(" "), *words], status, **more).stdout
 
-    def node(self, name: str) -> Path:
-        """Makes a device like /dev/null, so that a faulty command does not destroy the real one."""
-        path = self.folder / name
-        try:
-            os.mknod(str(path), 0o666 | stat.S_IFCHR, os.makedev(1, 3))
-            path.read_bytes()
-        except OSError:
-            self.skipTest("skipped: no device can be made here")
-        return path
-
 
 class Repository(Case):
     """A test in a new repository, with the commands on the path, in which the hook
@@ -174,9 +162,7 @@ class Repository(Case):
         for path in TOOLS.glob("plistconv-*"):
             self.assertTrue(os.access(str(path), os.X_OK), path)
         # So that `#!/usr/bin/env python3` is the Python that runs the tests.
-        script = f'#!/bin/sh\nexec {shlex.quote(sys.executable)} "$@"\n'
-        python = self.put(".git/bin/python3", script.encode())
-        python.chmod(0o755)
+        python = self.script(".git/bin/python3", f'exec {shlex.quote(sys.executable)} "$@"')
         self.environment["PATH"] = f"{python.parent}{os.pathsep}{self.environment['PATH']}"
 
     def add(self, files=None) -> None:
