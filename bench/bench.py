@@ -6,8 +6,9 @@ usage: bench/bench.py [PLISTCONV] [--runs N] [--only NAME,..] [--small]
        bench/bench.py PLISTCONV --other PLISTCONV [--command ARGUMENTS] ..
 
 The programs run in turns, N times (default 5), so that other work on the machine affects all of
-them alike. Seconds are user and system time of the processor, the least of these runs. Memory is
-the greatest resident size. A peer reads the file and writes it as a binary property list (GNUstep's
+them alike. Seconds are user and system time of the processor, the least of these runs, and beside
+them elapsed time, which counts what a program waits for the disk. Memory is the greatest resident
+size. A peer reads the file and writes it as a binary property list (GNUstep's
 pl: as a text). Peers that are not installed are skipped, with a line that names the Debian package.
 Within 60 seconds each program has to write a file with the value of its input, which is checked by
 `plistconv same`; a peer that does not is left out with a line. The status is 1 if plistconv does
@@ -69,15 +70,16 @@ class Files:
 
 
 def best(runs):
-    """Returns the least processor time and the greatest size, or None if a run failed (1 is an
-    answer of `check`)."""
+    """Returns the least processor time, the greatest size and the least elapsed time, or None if a
+    run failed (1 is an answer of `check`)."""
     if any(run.status > 1 for run in runs):
         return None
-    return least(runs)
+    return *least(runs), min(run.seconds for run in runs)
 
 
 def measured(measure, programs, source, target, count):
-    """Returns the seconds and bytes of each program. The programs run in turns."""
+    """Returns the seconds, bytes and elapsed seconds of each program. The programs run in
+    turns."""
     runs = {name: [] for name in programs}
     for _ in range(count):
         for name, words in programs.items():
@@ -95,7 +97,7 @@ def rows(name, octets, figures):
     ours = figures[OURS][0]
     for program, found in figures.items():
         if found is not None:
-            time = f"{found[0]:.3f}", f"{ours / found[0]:.2f}"
+            time = f"{found[0]:.3f}", f"{found[2]:.3f}", f"{ours / found[0]:.2f}"
             memory = f"{found[1] / 1e6:.1f}", f"{found[1] / octets:.1f}"
             row(name, f"{octets:,}", program, *time, *memory)
 
@@ -193,7 +195,7 @@ def kinds(words, folder):
 def plot(figures, path):
     """Has plot.py make the plot."""
     rows = [
-        (name, program, octets, *figure)
+        (name, program, octets, *figure[:2])
         for (name, _), (octets, found) in figures.items()
         for program, figure in found.items()
         if figure is not None and program != BACK
@@ -211,7 +213,7 @@ def main():
     scales = scales[-1:] if words.other else scales
     with tempfile.TemporaryDirectory() as folder:
         measure, made, programs = Measure(folder), Files(folder), kinds(words, folder)
-        heads("file | octets | program | seconds | ours / its | MB | memory / input")
+        heads("file | octets | program | seconds | elapsed | ours / its | MB | memory / input")
         for name, those in programs.items():
             for scale in scales:
                 *found, more = one(measure, program, those, made, name, scale, words.runs)

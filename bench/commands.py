@@ -9,11 +9,16 @@ a file with itself, and `write` writes as many bytes as `print` does. On some fi
 0.6 of the time of a conversion, `same` 1.3 of that of `lint`, and a print twice that of a
 conversion. A print may take 1 MiB more memory than `lint`, and as much beside either array.
 
-The second table has one call with 1,000 small files beside a call for each: it prints the same
+The second table has prints of 30,000 strings of 117 units, in one script each. A unit of any script
+may take three times that of ASCII.
+
+The third table has one call with 1,000 small files beside a call for each: it prints the same
 lines in a tenth of the time, and with a large file among them takes a tenth more memory than for
 that file alone. The status is 1 if a limit is missed.
 """
 import os
+import plistlib
+import random
 import shutil
 import sys
 import tempfile
@@ -22,7 +27,13 @@ import files
 from hostile_files import head, joined
 from measure import Measure, heads, least, row
 
-CHECKED, PRINTED = ("mixed", "keys", "numbers"), ("mixed",)
+CHECKED, PRINTED = ("mixed", "keys", "numbers"), ("mixed", "cyrillic", "chinese")
+SCRIPTS = {
+    "ascii": (0x61, 26),
+    "accents": (0xE0, 32),
+    "cyrillic": (0x430, 32),
+    "chinese": (0x4E00, 20_992),
+}
 REFERENCES = {f"{count:,} references": count for count in (1_000_000, 16_777_215)}
 MEBIBYTE, COUNT = 1 << 20, 1_000
 
@@ -92,6 +103,24 @@ def of_files(program, measure):
     hold(max(beside) - min(beside), MEBIBYTE, "memory of print that grows with the output")
 
 
+def of_scripts(program, measure):
+    """Prints the row of each script."""
+    print()
+    heads("script | print, s | ns a unit | of ascii")
+    commands, chance = {}, random.Random(3)
+    for name, (first, count) in SCRIPTS.items():
+        letters = [chr(first + number) for number in range(count)]
+        strings = ["".join(chance.choices(letters, k=117)) for _ in range(30_000)]
+        with open(name, "wb") as into:
+            plistlib.dump(strings, into, fmt=plistlib.FMT_BINARY)
+        commands[name] = ([program, "print", name], None)
+    time, _ = in_turns(measure, commands)
+    for name in SCRIPTS:
+        times = time[name] / time["ascii"]
+        row(name, f"{time[name]:.3f}", f"{time[name] / 117 / 30_000 * 1e9:.1f}", f"{times:.2f}")
+        hold(times, 3, f"{name}: seconds of print, of ascii")
+
+
 def of_many(program, measure):
     """Prints the row of `lint` and of `check`."""
     print()
@@ -124,7 +153,7 @@ def main():
     program = os.path.abspath(sys.argv[1] if len(sys.argv) > 1 else "./plistconv")
     with tempfile.TemporaryDirectory() as folder:
         os.chdir(folder)
-        for table in (of_files, of_many):
+        for table in (of_files, of_scripts, of_many):
             table(program, Measure(folder))
     print("\n".join(MISSED or ["No limit is missed."]))
     return 1 if MISSED else 0

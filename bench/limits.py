@@ -7,6 +7,9 @@ memory is refused, so a command could report 60 for whatever is longer than the 
 - Each command reads, writes and compares values of 70,000 keys, of 1,100,000 strings, of 3 MiB of
   data, of strings of 30 MB, and of 450 levels. It refuses such a value with a duplicate key, and a
   long text with an error at its end. Each of these texts is read as UTF-8 and as UTF-16.
+- Each command reads files with 140,000 keys in descending order, with a top object past 2^21, with
+  65,700 strings twice, and with 110 MB of text; `check` names the first broken rule of files that
+  are longer than those of the tests, or have long keys in many dictionaries.
 - `lint` opens a path of 200 bytes, and one of 4,090, and reports one that is longer than
   any path of the system.
 
@@ -19,7 +22,7 @@ import subprocess
 import sys
 import tempfile
 
-from hostile_files import array, dictionary, head, joined, least, number, trailer
+from hostile_files import array, dictionary, file, head, joined, least, number, trailer
 
 NODES = 16_777_216
 UNITS = 1_073_741_824 // 2
@@ -85,6 +88,7 @@ LARGE = {
     "all payload": (lambda: b"(" + b"a" * (UNITS - 1) + b",b)", PLAIN, None, 0),
     "one letter more": (lambda: b"(" + b"a" * UNITS + b",b)", PLAIN, PAYLOAD_18, UNITS + 2),
     "another string": (lambda: b"a" * (UNITS + 1) + b" b", PLAIN, PAYLOAD_18, 0),
+    "too deep as well": (lambda: b"(" * 512 + b"a" * (UNITS + 1), PLAIN, b"16 TooDeep", 512),
 }
 
 
@@ -249,6 +253,92 @@ def read_many(runs, count):
     runs.expect(name, "check file", 1, b"broken C3 at object 1\n")
 
 
+def convert_all(runs, name, octets, value):
+    """Has each command read the file, which is not canonical but spells the value."""
+    runs.put("file", octets)
+    runs.put("own", value.file)
+    runs.expect(name, "lint file", 0, b"file: OK\n")
+    runs.expect(name, "convert binary1 file out", 0, b"", value.file)
+    runs.expect(name, "convert openstep file out", 0, b"", value.written)
+    runs.expect(name, "print file", 0, value.printed)
+    runs.expect(name, "same file own", 0, b"equal\n")
+
+
+def descending(count):
+    """Returns a file of the dictionary of `keys`, whose keys are in descending order."""
+    names = [b"\x56%06d" % key for key in reversed(range(count))]
+    return joined([dictionary(range(1, count + 1), count + 1, 4), *names, b"Qv"], 4)
+
+
+def named_twice(count):
+    """Returns a file of an array of strings, each of them twice, with an object for each, and its
+    value."""
+    names = [b"%07d" % item for item in range(count)] * 2
+    objects = [b"\x57" + name for name in names]
+    own = array([*range(1, count + 1)] * 2, least(count + 1))
+    return joined([array(range(1, 2 * count + 1), 4), *objects], 4), Value(
+        None,
+        canonical([own, *objects[:count]]),
+        b"(\n" + b"".join(b"%s,\n" % name for name in names) + b")\n",
+        b"[\n" + b"".join(b'  "%s"\n' % name for name in names) + b"]\n",
+    )
+
+
+def one_often(count, size):
+    """Returns a file of an array with many references to one string, and its value."""
+    text = b"a" * size
+    objects = head(0x50, size) + text
+    return joined([array([1] * count, 2), objects], 2), Value(
+        None,
+        canonical([array([1] * count, 1), objects]),
+        b"(\n" + b"%s,\n" % text * count + b")\n",
+        b"[\n" + b'  "%s"\n' % text * count + b"]\n",
+    )
+
+
+def read_last(runs, count):
+    """Has each command read a file whose top object is the last of many."""
+    name, table = f"object {count - 1:,} as the top", b"\x08" * count
+    end = bytes(6) + b"\x01\x04" + b"".join(number(n, 8) for n in (count, count - 1, 9))
+    runs.put("file", b"bplist00\x09" + table + end)
+    runs.put("own", canonical([b"\x09"]))
+    runs.expect(name, "lint file", 0, b"file: OK\n")
+    runs.expect(name, "convert binary1 file out", 0, b"", canonical([b"\x09"]))
+    runs.expect(name, "print file", 0, b"true\n")
+    runs.expect(name, "same file own", 0, b"equal\n")
+    runs.expect(name, "check file", 1, b"broken C1 at object 0\n")
+
+
+def gapped(objects, width, place):
+    """Returns a file of these objects, with an unused byte before the one at this place."""
+    own = [b"\x09" * (number == place) + one for number, one in enumerate(objects)]
+    ends = [8 + sum(map(len, own[: number + 1])) for number in range(len(own))]
+    places = [end - len(one) for end, one in zip(ends, objects)]
+    return file(b"".join(own), places, width, least(ends[-1]))
+
+
+LONG = b"\x5f\x10\x07"  # (the marker of seven ASCII characters, with a count that needs no byte)
+
+
+def broken_late(runs):
+    """Has `check` name the first broken rule of files that break another one at a later object."""
+    count = 5_000
+    names = [b"\x57%07d" % name for name in range(1, count + 1)]
+    items = [array(range(1, count + 1), 2), *names]
+    items[20], items[4_500] = items[10], LONG + b"abcdefg"
+    runs.put("file", canonical(items))
+    runs.expect("a string again, and a long count", "check file", 1, b"broken C6 at object 20\n")
+    pairs = [dictionary(range(1, count + 1), count + 1, 2), *names, b"Qv"]
+    pairs[3] = LONG + b"0000003"
+    runs.put("file", gapped(pairs, 2, 4_500))
+    runs.expect("a long count, and a gap", "check file", 1, b"broken C4 at object 3\n")
+    keys_of = [bytes([0xD2, 11, 12 + one % 2, 14, 15]) for one in (1, 0) * 5]
+    texts = [head(0x50, 200) + letter * 200 for letter in (b"a", b"b", b"c")]
+    file_of_keys = [array(range(1, 11), 1), *keys_of, *texts, b"\x5f\x10\x01v", b"Qw"]
+    runs.put("file", gapped(file_of_keys, 1, 15))
+    runs.expect("long keys in many dictionaries", "check file", 1, b"broken C4 at object 14\n")
+
+
 def open_paths(runs):
     """Has the program open long paths."""
     runs.put("text", b"a")
@@ -274,6 +364,11 @@ def try_all(runs):
     ):
         accept(runs, name, make(size))
     refuse_long(runs)
+    convert_all(runs, "140,000 keys that descend", descending(140_000), keys(140_000))
+    convert_all(runs, "65,700 strings twice", *named_twice(65_700))
+    convert_all(runs, "110 MB of text", *one_often(1_100, 100_000))
+    read_last(runs, 2**21 + 6)
+    broken_late(runs)
     open_paths(runs)
 
 

@@ -50,6 +50,8 @@ def random_text(rng):
     choice = rng.random()
     if choice < 0.6:
         return tuple(map(ord, rng.choice(WORDS)))
+    if choice < 0.61:
+        return long_text(rng)
     pool = [
         0,
         9,
@@ -67,9 +69,24 @@ def random_text(rng):
         0xD800,
         0xFEFF,
         0xFFFF,
+        0x0434,
+        0x4E2D,
+        0xD7FF,
+        0xE000,
         65,
     ]
     return tuple(rng.choice(pool) for _ in range(rng.choice([0, 1, 2, 3, 15, 40])))
+
+
+def long_text(rng):
+    """Returns a long string in one script, with a few units that are printed as escapes, or as
+    halves of a pair."""
+    first, count = rng.choice([(0x61, 26), (0xE0, 32), (0x430, 32), (0x4E00, 20_000)])
+    size = rng.choice([63, 64, 65, 95, 96, 97, 600, 5_000])
+    units = [first + rng.randrange(count) for _ in range(size)]
+    for _ in range(rng.choice([0, 1, 2, 5])):
+        units[rng.randrange(size)] = rng.choice([10, 34, 92, 0x200B, 0x3000, 0xD83D, 0xDE00])
+    return tuple(units)
 
 
 def random_whole(rng):

@@ -831,7 +831,8 @@ def topic(text):
     for code, name in {**NAMES, **OTHER_NAMES}.items():
         if word == str(code) or (word.isascii() and word.lower() == name.lower()):
             return "%d %s" % (code, name)
-    return word.upper() if len(word) == 2 and word[0] in "Cc" and word[1] in "01234567" else None
+    rule = re.fullmatch("([Cc][0-7]):?", word)
+    return rule[1].upper() if rule else None
 
 
 # The lines of several files.
