@@ -19,6 +19,7 @@ Besides:
 - docs/FORMATS.md has each refusal with its number and its name, and the limits of the code, and
   so does SECURITY.md; `plist_explain` explains its refusals and rules, in its order, in lines
   of at most 79 columns;
+- each file in CONTRIBUTING.md's list of what a new refusal needs has the name of each refusal;
 - CHANGELOG.md has the version of the program, which is also that of the man page, the
   header and the packages;
 - docs/RECIPES.md and the man page plistconv-tools.1 name each command in tools/;
@@ -58,7 +59,7 @@ class Sources:
 
 SOURCES = {crate: Sources([crate]) for crate in USES}
 ALL = Sources(USES)
-ALL.words.update(USES)
+ALL.words.update(USES, *USES.values())
 TARGETS = {
     target
     for file in (TOP / "Makefile", *TOP.glob("*.mk"))
@@ -194,6 +195,27 @@ def number_faults():
                 yield f"{page}: no limit {number}, which is {name}"
 
 
+def refusal_faults(text):
+    """Yields the refusals that a file lacks which has to name them: each file in the list of
+    CONTRIBUTING.md, which has this text."""
+    needed = text.partition("\n**A new refusal** needs\n")[2]
+    paths = [
+        TOP / base / span
+        for span in SPAN.findall(needed.partition("\n\n`")[0])
+        for base in (".", "crates")
+        if PATH.fullmatch(span) and (TOP / base / span).is_file()
+    ]
+    if len(paths) < 10:
+        yield "CONTRIBUTING.md: no list of what a new refusal needs"
+    specs = read("crates/plist_value/specs/Refusals.antt")
+    for name in re.findall(r"(?m)^number_of (\w+) = \d+$", specs):
+        upper = re.sub(r"(?<=[a-z0-9])(?=[A-Z])", "_", name).upper()
+        form = re.compile(rf"(?<![A-Za-z])(?:{name}|{upper})(?![A-Za-z])")
+        for path in paths:
+            if not form.search(path.read_text(encoding="utf-8")):
+                yield f"{path.relative_to(TOP)}: no refusal {name}"
+
+
 def version_faults():
     """Yields the files whose version is not that of the program."""
     version = re.search(r'\.version\("([^"]+)"\)', read("crates/plist_convert/src/commands.rt"))[1]
@@ -241,7 +263,13 @@ def main():
     for page in PAGES:
         faults += page_faults(page, page.read_text(encoding="utf-8"))
     faults += layer_faults(read("docs/ARCHITECTURE.md"))
-    faults += [*number_faults(), *version_faults(), *tool_faults(), *cost_faults()]
+    faults += [
+        *number_faults(),
+        *refusal_faults(read("CONTRIBUTING.md")),
+        *version_faults(),
+        *tool_faults(),
+    ]
+    faults += cost_faults()
     if not re.search(r"commit [0-9a-f]{7,}", read("docs/BENCHMARKS.md")):
         faults.append("BENCHMARKS.md: it does not name the commit that was measured")
     print("\n".join([*faults, f"{len(PAGES)} pages, {len(faults)} faults"]))

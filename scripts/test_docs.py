@@ -23,6 +23,15 @@ class Docs(unittest.TestCase):
         found = list(docs.layer_faults("    top    plistconv, plist_value\n"))
         self.assertLessEqual(len(CRATES), len(found))
 
+    def test_files_without_the_name_of_a_refusal_are_found(self):
+        text = docs.read("CONTRIBUTING.md").replace("`fuzz/oracle.py`", "`completions/test`")
+        self.assertEqual([], list(docs.refusal_faults(docs.read("CONTRIBUTING.md"))))
+        self.assertIn("completions/test: no refusal Cycle", list(docs.refusal_faults(text)))
+        text = text.replace("**A new refusal** needs", "**A new one** needs")
+        self.assertIn(
+            "CONTRIBUTING.md: no list of what a new refusal needs", docs.refusal_faults(text)
+        )
+
 
 if __name__ == "__main__":
     unittest.main()
