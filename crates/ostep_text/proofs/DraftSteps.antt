@@ -12,12 +12,12 @@ use Rattle.plist_draft.specs.View.{objects}
 use Rattle.plist_draft.specs.declared.draft.Draft.{Draft}
 use Rattle.plist_draft.specs.Encoded.{Keeps, SpellsIn, SpellItemsIn, SpellPairsIn}
 use Rattle.ostep_text.specs.Drafted.{SpellsRow, SpellsRows}
-use Rattle.ostep_text.specs.Keys.{in_set, HasKeysOf}
+use Rattle.ostep_text.specs.KeySet.{in_set, HasKeysOf}
 use Rattle.ostep_text.specs.Sorting.{has_key, StandsAmong, first, later}
 use Rattle.ostep_text.specs.Stands.{Stands}
 use Rattle.ostep_text.specs.declared.fault.TextFault.{TextFault}
 use Rattle.ostep_text.specs.declared.fault.TextFault.TheVariants.{OutOfMemory}
-use Rattle.ostep_text.specs.declared.keys.KeySet.{KeySet}
+use Rattle.ostep_text.specs.declared.key_set.KeySet.{KeySet}
 use Rattle.ostep_text.specs.declared.entries.Entries.{Entries}
 use Rattle.ostep_text.proofs.SortingSteps.{among_has}
 

@@ -14,8 +14,8 @@ use Rattle.std.proofs.Math.Bool.{or_assoc}
 use Rattle.plist_value.specs.Plist.{AreUnits}
 use Rattle.ostep_text.specs.Key.{is_short_key, packed, number_of, key_cmp}
 use Rattle.ostep_text.specs.KeyOrder.{key_ties}
-use Rattle.ostep_text.specs.Keys.{in_set}
-use Rattle.ostep_text.specs.declared.keys.KeySet.{KeySet}
+use Rattle.ostep_text.specs.KeySet.{in_set}
+use Rattle.ostep_text.specs.declared.key_set.KeySet.{KeySet}
 use Rattle.ostep_text.proofs.SortingSteps.{or-swap}
 
 -- the base of the number of a key with few units, and of another

@@ -11,7 +11,7 @@ pub mod Reading
 pub mod Drafted
 pub mod Key
 pub mod KeyOrder
-pub mod Keys
+pub mod KeySet
 pub mod First
 pub mod Due
 pub mod WriteFault

@@ -13,7 +13,7 @@ mod entries;
 pub mod fault;
 mod first;
 mod key;
-mod keys;
+mod key_set;
 pub mod laws;
 mod payloads;
 pub mod read;

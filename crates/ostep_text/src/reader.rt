@@ -27,7 +27,7 @@ use crate::building::{put_data, put_key, put_list, put_table, put_text};
 use crate::entries::Entries;
 use crate::first::First;
 use crate::key::Key;
-use crate::keys::KeySet;
+use crate::key_set::KeySet;
 use crate::payloads::{data_payload, text_payload};
 use crate::tokens::Tokens;
 use ostep_lex::{Token, TokenKind};

@@ -18,7 +18,7 @@ use crate::TextFault;
 use crate::building::{put_key, put_table};
 use crate::entries::Entries;
 use crate::key::Key;
-use crate::keys::KeySet;
+use crate::key_set::KeySet;
 use crate::reader::Reader;
 use crate::tokens::begins_value;
 use ostep_lex::{Token, TokenKind};

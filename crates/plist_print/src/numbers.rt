@@ -9,20 +9,25 @@ pub(crate) struct Decimal {
     ghost few: { digits ≤ 21 },
 }
 
-// A format: the number of bytes, the sign bit, the bits of the least normal real and those of
-// infinity. 1 is 2^`one` times the least real above 0. Reals with an exponent below `to` can have
-// decimals.
+// A format of reals: single or double precision of IEEE 754. A real stands here for the number that
+// its bits are, and its exponent is the biased one.
 #[derive(Clone, Copy)]
 pub(crate) struct Format {
+    // The size in bytes.
     pub(crate) octets: usize,
+    // The bit of the sign.
     pub(crate) sign: u64,
+    // The least normal real, and so the bit that all normal reals have and none stores.
     pub(crate) hidden: u64,
+    // Infinity.
     pub(crate) infinite: u64,
+    // 1 is 2^`one` times the least real above 0.
     pub(crate) one: u64,
+    // Reals with an exponent below this can be printed as decimals.
     pub(crate) to: u64,
 }
 
-// Four bytes.
+// Single precision.
 pub(crate) const SINGLE: Format = Format {
     octets: 4,
     sign: 0x8000_0000,
@@ -32,7 +37,7 @@ pub(crate) const SINGLE: Format = Format {
     to: 152,
 };
 
-// Eight bytes.
+// Double precision.
 pub(crate) const DOUBLE: Format = Format {
     octets: 8,
     sign: 0x8000_0000_0000_0000,

@@ -1,7 +1,7 @@
 pub mod Answers
 pub mod Given
 pub mod Inputs
-pub mod Keys
+pub mod KeyedHasher
 pub mod Lines
 pub mod Refusals
 pub mod Texts

@@ -9,7 +9,7 @@ ghost use Rattle.plistconv_c.specs.Inputs.{IsCheckRefused};
 
 use crate::Refused;
 use crate::inputs::admit;
-use crate::keys::keyed_hasher;
+use crate::keyed_hasher::keyed_hasher;
 use plist_canon::{Verdict, check, check_with_hasher};
 use plist_forms::Fault;
 use std::alloc::Global;

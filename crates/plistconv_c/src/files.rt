@@ -9,7 +9,7 @@ ghost use Rattle.plistconv_c.specs.Inputs.{IsInputRefused, IsPairRefused};
 use crate::Refused;
 use crate::giving::give_output;
 use crate::inputs::{admit, admit_pair};
-use crate::keys::keyed_hasher;
+use crate::keyed_hasher::keyed_hasher;
 use plist_forms::{
     Fault, PairFault, canonicalise, canonicalise_with_hasher, same_files, same_files_with_hasher,
 };

@@ -9,7 +9,7 @@ mod faults;
 mod files;
 mod giving;
 mod inputs;
-mod keys;
+mod keyed_hasher;
 mod lines;
 mod linting;
 mod openstep;

@@ -11,7 +11,7 @@ use Rattle.ostep_text.specs.Sorting.{has_key}
 use Rattle.plist_draft.specs.Encoded.{SpellsIn, SpellItemsIn}
 use Rattle.plist_draft.specs.View.{objects}
 use Rattle.ostep_text.specs.Drafted.{IsBuilt, SpellsRows}
-use Rattle.ostep_text.specs.Keys.{HasKeysOf}
+use Rattle.ostep_text.specs.KeySet.{HasKeysOf}
 use Rattle.ostep_text.specs.declared.entries.Entries.{Entries}
 use Rattle.ostep_text.specs.declared.fault.TextFault.TheVariants.{Expected}
 use Rattle.ostep_text.specs.declared.reader.Reader.{Reader}

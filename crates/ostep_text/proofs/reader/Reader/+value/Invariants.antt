@@ -6,7 +6,7 @@ use Rattle.plist_draft.specs.View.{objects}
 use Rattle.plist_value.specs.Plist.{Pairs}
 use Rattle.ostep_text.specs.declared.entries.Entries.{Entries}
 use Rattle.ostep_text.specs.Drafted.{IsBuilt, SpellsRows}
-use Rattle.ostep_text.specs.Keys.{HasKeysOf}
+use Rattle.ostep_text.specs.KeySet.{HasKeysOf}
 use Rattle.ostep_text.specs.Reading.{HasRead, ReadsItems, ReadsPairs, TakesItems, TakesPairs}
 use Rattle.ostep_text.proofs.reader.Reader.+value.Given as goal
 

@@ -15,7 +15,7 @@ use Rattle.ostep_text.specs.Stands.{Stands}
 use Rattle.ostep_text.specs.Machine
 use Rattle.ostep_text.specs.Reading.{HasRead, IsLeft, ReadsRow, StandsIfLexed, TakesRow}
 use Rattle.ostep_text.specs.Drafted.{SpellsRow, SpellsRows}
-use Rattle.ostep_text.specs.Keys.{HasKeysOf}
+use Rattle.ostep_text.specs.KeySet.{HasKeysOf}
 use Rattle.plist_value.specs.declared.budget.Budget.{Budget}
 use Rattle.ostep_lex.proofs.Exits.{passed_on}
 use Rattle.ostep_text.proofs.Standing.{junk-at}

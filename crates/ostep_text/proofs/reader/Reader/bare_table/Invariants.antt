@@ -4,7 +4,7 @@ use Rattle.plist_value.specs.Plist.{Plist, Pairs}
 use Rattle.ostep_lex.specs.Cursor.{ahead}
 use Rattle.plist_draft.specs.View.{objects}
 use Rattle.ostep_text.specs.Drafted.{SpellsRow, SpellsRows}
-use Rattle.ostep_text.specs.Keys.{HasKeysOf}
+use Rattle.ostep_text.specs.KeySet.{HasKeysOf}
 use Rattle.ostep_text.specs.Begun.{nothing, opened}
 use Rattle.ostep_text.specs.Reading.{IsLeft, ReadsRow, TakesRow}
 use Rattle.ostep_text.proofs.BareSteps.{BareRead}

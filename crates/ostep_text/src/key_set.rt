@@ -3,7 +3,7 @@ ghost use Rattle.std.specs.Prelude.{◌≡◌, ◌||◌, true, false, ℕ, List,
 ghost use Rattle.std.specs.Result.{OnOk};
 ghost use Rattle.std.specs.Cmp.Lexicographic.{pointwise};
 ghost use Rattle.ostep_text.specs.Key.{is_short_key};
-ghost use Rattle.ostep_text.specs.Keys.{in_set};
+ghost use Rattle.ostep_text.specs.KeySet.{in_set};
 
 use crate::key::Key;
 use std::alloc::{AllocError, Global};

@@ -4,7 +4,7 @@ use Rattle.std.specs.List.{list_any}
 use Rattle.std.specs.BTreeSet.{contains}
 use Rattle.std.specs.Ordering.{nat_cmp}
 use Rattle.plist_value.specs.Plist.{Pairs}
-use Rattle.ostep_text.specs.declared.keys.KeySet.{KeySet}
+use Rattle.ostep_text.specs.declared.key_set.KeySet.{KeySet}
 use Rattle.ostep_text.specs.Key.{is_short_key, number_of, key_cmp}
 use Rattle.ostep_text.specs.Sorting.{has_key}
 

@@ -2,7 +2,7 @@
 use Rattle.std.specs.Prelude.{ℕ, List, replicate}
 use Rattle.std.specs.Hash.DefaultHasher.{initial, write}
 use Rattle.std.specs.declared.hash.DefaultHasher.{DefaultHasher}
-use Rattle.plistconv_c.specs.declared.keys.KeyedHasher.{KeyedHasher}
+use Rattle.plistconv_c.specs.declared.keyed_hasher.KeyedHasher.{KeyedHasher}
 
 -- sixteen zeros mean no key
 abbrev pub no_key : List ℕ

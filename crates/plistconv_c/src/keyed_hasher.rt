@@ -1,6 +1,6 @@
 //! The key for hashing scalars.
 ghost use Rattle.std.specs.Prelude.{◌≡◌, IfNone, IfSome};
-ghost use Rattle.plistconv_c.specs.Keys.{initial_of, keyed_by, no_key};
+ghost use Rattle.plistconv_c.specs.KeyedHasher.{initial_of, keyed_by, no_key};
 
 use std::hash::{BuildHasher, DefaultHasher, Hasher};
 
