@@ -11,17 +11,33 @@ static const struct { uint8_t number; const char *name; } names[] = {
 #include "names.h"
 };
 
-/* Whether the library prints the refusal under this name, in any unit that it has. */
-static int is_named(uint8_t number, const char *name) {
-    char wanted[80];
-    int count = snprintf(wanted, sizeof wanted, "x: refused %d %s", number, name);
-    for (uint8_t unit = PLISTCONV_NO_PLACE; unit <= PLISTCONV_SENT; unit++) {
-        plistconv_refusal refusal = {7, number, unit, 1};
-        if (unit == PLISTCONV_NO_PLACE) refusal.place = 0;
-        uint8_t line[80] = {0};
-        size_t length;
-        if (plistconv_line((const uint8_t *)"x", 1, &refusal, line, sizeof line, &length) != 0) continue;
-        return length <= sizeof line && memcmp(line, wanted, count) == 0 && (line[count] == 0 || line[count] == ' ');
+/* The numbers of the refusals that have each unit, and how a place in it is printed. */
+static const struct { uint8_t numbers[17]; const char *place; } units[] = {
+    {{1, 2, 3, 40, 50, 52, 60}, ""},
+    {{4, 5, 6, 7, 8, 9, 10, 11, 12, 13, 14, 15, 16, 17, 18}, " at object 7"},
+    {{14, 16, 17, 18, 20, 21, 23, 24, 25, 26, 27, 28, 29, 30, 31, 32}, " at octet 7"},
+    {{51, 60}, " after 7 octets"},
+};
+
+/* Whether the library prints this line, or none if the refusal has no such unit. */
+static int line_holds(uint8_t number, uint8_t unit) {
+    plistconv_refusal refusal = {unit == PLISTCONV_NO_PLACE ? 0 : 7, number, unit, 1};
+    char wanted[80], line[80];
+    size_t length = 7;
+    uint8_t answer = plistconv_line((const uint8_t *)"x", 1, &refusal, (uint8_t *)line, sizeof line, &length);
+    if (number == 0 || unit > PLISTCONV_SENT || !memchr(units[unit].numbers, number, sizeof units->numbers))
+        return answer == PLISTCONV_UNTOLD && length == 0;
+    size_t count = snprintf(wanted, sizeof wanted, "x: refused %d %s%s", number, plistconv_refusal_name(number),
+                            units[unit].place);
+    return answer == 0 && length == count && memcmp(line, wanted, count) == 0;
+}
+
+/* The lines of all numbers with all units. */
+static int lines_hold(void) {
+    for (unsigned pair = 0; pair < 256 * 256; pair++) {
+        if (line_holds(pair % 256, pair / 256)) continue;
+        fprintf(stderr, "header.c: the line of %u with the unit %u\n", pair % 256, pair / 256);
+        return 1;
     }
     return 0;
 }
@@ -34,10 +50,6 @@ static int names_hold(void) {
     for (size_t at = 0; at < sizeof names / sizeof *names; at++) {
         const char *name = plistconv_refusal_name(names[at].number);
         MUST(name && strcmp(name, names[at].name) == 0);
-        if (!is_named(names[at].number, name)) {
-            fprintf(stderr, "header.c: %d is not %s\n", names[at].number, name);
-            return 1;
-        }
     }
     return 0;
 }
@@ -162,7 +174,8 @@ int main(void) {
     uint8_t (*call)(const uint8_t *, size_t, const uint8_t *, uint8_t *, size_t, size_t *, plistconv_refusal *) =
         plistconv_canonical;
     MUST(call(text, count, NULL, NULL, 0, &length, &refusal) == 0 && length == needed);
-    if (names_hold() || buffers_hold() || long_holds() || keys_hold(text, count) || empty_holds()) return 1;
+    if (names_hold() || lines_hold() || buffers_hold() || long_holds() || keys_hold(text, count)) return 1;
+    if (empty_holds()) return 1;
     puts("header: " PLISTCONV_VERSION);
     return 0;
 }

@@ -1,8 +1,9 @@
-//! Copies of values, and strings, compared and as keys of a map.
+//! Copies of values, strings, compared and as keys of a map, and which refusals there are.
 use crate::worked_files::TABLE_TEXT;
 use ostep_text::read_text;
 use plist_value::{
-    MAX_DEPTH, MAX_NODES, MAX_PAYLOAD, ScalarRef, TextRef, Utf16, Value, Whole, copy, fits, same,
+    MAX_DEPTH, MAX_NODES, MAX_PAYLOAD, Place, Refusal, Report, ScalarRef, TextRef, Utf16, Value,
+    Whole, copy, fits, same,
 };
 use std::alloc::{AllocError, Global};
 use std::collections::{BTreeMap, HashMap};
@@ -162,6 +163,34 @@ fn strings_are_alike_up_to_a_difference(rt: HostRuntime) -> Result<(), Fail> {
                 let wrong = wrong_limit(&units, &others, shared);
                 assert_eq!(rt; wrong, None, "{front}, {end:?}, {other:?}, {rest}");
             }
+        }
+    }
+    Ok(())
+}
+
+// The numbers of the refusals that have each kind of place.
+const PLACES: [(Place, &[u8]); 4] = [
+    (Place::Nowhere, &[1, 2, 3, 40, 50, 52, 60]),
+    (
+        Place::Object(7),
+        &[4, 5, 6, 7, 8, 9, 10, 11, 12, 13, 14, 15, 16, 17, 18],
+    ),
+    (
+        Place::Octet(7),
+        &[
+            14, 16, 17, 18, 20, 21, 23, 24, 25, 26, 27, 28, 29, 30, 31, 32,
+        ],
+    ),
+    (Place::After(7), &[51, 60]),
+];
+
+#[test]
+fn refusals_have_numbers_and_places(rt: HostRuntime) -> Result<(), Fail> {
+    for number in 0..=255 {
+        let refusal = Refusal::of_number(number);
+        for (i, (place, numbers)) in PLACES.iter().enumerate() {
+            let is_possible = refusal.is_some_and(|refusal| Report(refusal, *place).is_possible());
+            assert_eq!(rt; is_possible, numbers.contains(&number), "{number}, {i}");
         }
     }
     Ok(())

@@ -1,5 +1,5 @@
 -- The numbers and the names of the refusals, and how a refusal is printed.
-use Rattle.std.specs.Prelude.{◌≡◌, ℕ, List, ◌++◌, codes}
+use Rattle.std.specs.Prelude.{◌≡◌, ◌==◌, ◌&&◌, ◌||◌, ℕ, Bool, List, ◌++◌, codes, nat_lt}
 use Rattle.std.specs.Fmt.{decimal}
 use Rattle.plist_value.specs.declared.refusals.Refusal.{Refusal}
 use Rattle.plist_value.specs.declared.refusals.Refusal.TheVariants.{TooShort, BadHeader, BadTrailer}
@@ -99,6 +99,18 @@ name_of OutOfMemory = codes "OutOfMemory"
 -- a refusal with its position
 abbrev pub reports : Refusal → Place → Report
 reports refusal place = record { 0 = refusal; 1 = place }
+
+-- whether the refusal with this number occurs with such a position
+abbrev pub occurs_at : ℕ → Place → Bool
+occurs_at number Nowhere =
+    nat_lt number 4 || ((number == 40) || ((number == 50) || ((number == 52) || (number == 60))))
+occurs_at number (Object _) = nat_lt 3 number && nat_lt number 19
+occurs_at number (Octet _) = (number == 14) || (nat_lt 15 number && nat_lt number 33)
+occurs_at number (After _) = (number == 51) || (number == 60)
+
+-- whether the refusal occurs with such a position
+abbrev pub is_possible : Report → Bool
+is_possible report = occurs_at (number_of report.0) report.1
 
 -- how the position is printed
 abbrev pub place_text : Place → List ℕ

@@ -1,6 +1,6 @@
 //! All refusals: their numbers and names, each written once, and how a refusal is printed.
-ghost use Rattle.std.specs.Prelude.{◌≡◌, Some};
-ghost use Rattle.plist_value.specs.Refusals.{TellsApart, name_of, number_of, report_text};
+ghost use Rattle.std.specs.Prelude.{◌≡◌, ◌≢◌, None, Some, IfSome};
+ghost use Rattle.plist_value.specs.Refusals.{TellsApart, is_possible, name_of, number_of, report_text};
 
 use std::fmt;
 
@@ -88,6 +88,51 @@ impl Refusal {
         self as u8
     }
 
+    /// Returns the refusal with the number, if there is one.
+    pub fn of_number(number: u8) -> Option<Refusal>
+        ensures found { IfSome result (λ refusal. number_of refusal ≡ number) }
+        ensures none { result ≡ None → (refusal : Refusal) → number_of refusal ≢ number }
+    {
+        Some(match number {
+            1 => Refusal::TooShort,
+            2 => Refusal::BadHeader,
+            3 => Refusal::BadTrailer,
+            4 => Refusal::BadOffset,
+            5 => Refusal::BadReference,
+            6 => Refusal::CutObject,
+            7 => Refusal::BadMarker,
+            8 => Refusal::NullObject,
+            9 => Refusal::UidObject,
+            10 => Refusal::SetObject,
+            11 => Refusal::NotAscii,
+            12 => Refusal::WideInteger,
+            13 => Refusal::KeyNotText,
+            14 => Refusal::DuplicateKey,
+            15 => Refusal::Cycle,
+            16 => Refusal::TooDeep,
+            17 => Refusal::TooManyNodes,
+            18 => Refusal::TooMuchPayload,
+            20 => Refusal::BadUtf8,
+            21 => Refusal::XmlForm,
+            23 => Refusal::UnexpectedCharacter,
+            24 => Refusal::UnclosedString,
+            25 => Refusal::UnclosedComment,
+            26 => Refusal::BadEscape,
+            27 => Refusal::OctalRange,
+            28 => Refusal::OddData,
+            29 => Refusal::BadData,
+            30 => Refusal::Expected,
+            31 => Refusal::Junk,
+            32 => Refusal::BadUtf16,
+            40 => Refusal::NotInOpenStep,
+            50 => Refusal::ReadFailed,
+            51 => Refusal::WriteFailed,
+            52 => Refusal::InputTooLarge,
+            60 => Refusal::OutOfMemory,
+            _ => return None,
+        })
+    }
+
     /// Returns the name, as it is printed.
     pub fn name(self) -> &'static str
         ensures { result.now ≡ name_of self }
@@ -149,6 +194,21 @@ pub enum Place {
 /// UnclosedString at octet 2`, `51 WriteFailed after 10 octets` or `1 TooShort`.
 #[derive(Clone, Copy)]
 pub struct Report(pub Refusal, pub Place);
+
+impl Report {
+    /// Returns whether the refusal occurs with such a position.
+    pub fn is_possible(&self) -> bool
+        ensures { result ≡ is_possible self.now }
+    {
+        let number = self.0.number();
+        match self.1 {
+            Place::Nowhere => matches!(number, 1..=3 | 40 | 50 | 52 | 60),
+            Place::Object(_) => matches!(number, 4..=18),
+            Place::Octet(_) => matches!(number, 14 | 16..=32),
+            Place::After(_) => matches!(number, 51 | 60),
+        }
+    }
+}
 
 impl fmt::Display for Report {
     ghost output = { λ report. Some (report_text report) };

@@ -1,4 +1,4 @@
 pub mod Codes
-pub mod Named
 pub mod Gathered
 pub mod Outputs
+pub mod Reports

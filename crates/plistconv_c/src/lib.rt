@@ -5,7 +5,6 @@
 #![tactic(auto)]
 
 mod checking;
-mod faults;
 mod files;
 mod giving;
 mod inputs;

@@ -1,12 +1,11 @@
 //! Printing the line of a refusal.
-ghost use Rattle.std.specs.Prelude.{◌≡◌, ◌≢◌, IfOk};
-ghost use Rattle.plist_forms.specs.Line.{line_of};
+ghost use Rattle.std.specs.Prelude.{◌≡◌, ◌≢◌, ◌++◌, IfOk, codes};
+ghost use Rattle.plist_value.specs.Refusals.{report_text};
 ghost use Rattle.plistconv_c.specs.Lines.{IsLineGiven, IsNoLine};
 
 use crate::Refused;
-use crate::faults::fault_of;
 use crate::giving::give;
-use plist_forms::{Fault, line};
+use plist_value::Report;
 use std::alloc::{AllocError, Global};
 
 /// Writes the line of a refusal that a call set, without a line end, to the start of the buffer:
@@ -31,20 +30,21 @@ pub extern "C" fn plistconv_line(
         → IsNoLine into.old into.new length.new refusal.now result }
 {
     *length = 0;
-    let Some(fault) = fault_of(refusal) else {
+    let Some(report) = refusal.report() else {
         return 255;
     };
-    match line_at(alloc, path, &fault) {
+    match line_at(alloc, path, &report) {
         Ok(text) => give(&text, into, length),
         Err(AllocError) => 60,
     }
 }
 
-// Returns the line of the fault. Like [`line`], but the path may have any bytes.
-fn line_at(alloc: Global, path: &[u8], fault: &Fault) -> Result<Vec<u8>, AllocError>
-    ensures { IfOk result (λ text. text.items ≡ line_of path.now fault.now) }
+// Returns the line of the report. Like `line` of `plist_forms`, but the path may have any bytes.
+fn line_at(alloc: Global, path: &[u8], report: &Report) -> Result<Vec<u8>, AllocError>
+    ensures { IfOk result (λ text.
+        text.items ≡ path.now ++ (codes ": refused " ++ report_text report.now)) }
 {
-    let rest = line(alloc, "", fault)?;
+    let rest = format!(in alloc; ": refused {report}")?;
     let mut text = Vec::new(alloc);
     text.extend_from_slice(path)?;
     text.extend_from_slice(rest.as_bytes())?;

@@ -1,9 +1,11 @@
 //! A refusal as a number and a place.
-ghost use Rattle.std.specs.Prelude.{◌≡◌, ◌<◌};
+ghost use Rattle.std.specs.Prelude.{◌≡◌, ◌≢◌, ◌<◌, None, IfSome};
+ghost use Rattle.plist_value.specs.declared.refusals.Place.{Place};
+ghost use Rattle.plistconv_c.specs.Lines.{IsReport, IsUnreported};
 ghost use Rattle.plistconv_c.specs.Refusals.{no_refusal, refusal_of, unit_and_place};
 
 use plist_forms::Fault;
-use plist_value::Place;
+use plist_value::{Place, Refusal, Report};
 
 /// Why a call was refused. All fields are 0 if it was not.
 #[repr(C)]
@@ -53,6 +55,21 @@ impl Refused {
         *self = Refused::of(fault, input);
         self.number
     }
+
+    // Returns the report that is described, if a fault has it.
+    pub(crate) fn report(&self) -> Option<Report>
+        ensures found { IfSome result (λ report. IsReport self.now report) }
+        ensures none { result ≡ None → IsUnreported self.now }
+    {
+        let refusal = Refusal::of_number(self.number)?;
+        let place = place_of(self.unit, self.place)?;
+        let report = Report(refusal, place);
+        if report.is_possible() {
+            Some(report)
+        } else {
+            None
+        }
+    }
 }
 
 // Returns the unit of a place, and the place in that unit.
@@ -64,5 +81,19 @@ fn unit_and_place(place: Place) -> (u8, u64)
         Place::Object(object) => (1, object),
         Place::Octet(octet) => (2, octet as u64),
         Place::After(sent) => (3, sent),
+    }
+}
+
+// Returns the place with this unit and this number, if there is one.
+fn place_of(unit: u8, place: u64) -> Option<Place>
+    ensures found { IfSome result (λ found. unit_and_place found ≡ (unit, place)) }
+    ensures none { result ≡ None → (found : Place) → unit_and_place found ≢ (unit, place) }
+{
+    match unit {
+        0 if place == 0 => Some(Place::Nowhere),
+        1 => Some(Place::Object(place)),
+        2 => Some(Place::Octet(place as usize)),
+        3 => Some(Place::After(place)),
+        _ => None,
     }
 }
