@@ -120,28 +120,46 @@ fn files_of(words: &[&str], row: &str) -> (usize, usize) {
     }
 }
 
-// Returns whether the row has its result over the host, leaves these bytes at the path `old`, opens
-// and creates each of its files once, and synchronises none.
-fn is_asked_once(rt: &HostRuntime, row: &str, left: &[u8], removes: bool) -> Result<bool, Fail> {
-    let (opened, created, synchronised) = (Cell::new(0), Cell::new(0), Cell::new(0));
+// How often a host was asked to open, create and synchronise a file.
+#[derive(Drop)]
+struct Asked {
+    opened: Cell<usize>,
+    created: Cell<usize>,
+    synchronised: Cell<usize>,
+}
+
+// Returns a host that counts what it is asked for.
+fn counting<'a>(rt: &'a HostRuntime, asked: &'a Asked, removes: bool) -> StrictHost<'a> {
     let transfers = Transfers {
-        synchronised: Some(&synchronised),
+        synchronised: Some(&asked.synchronised),
         ..Transfers::GOOD
     };
-    let host = StrictHost {
+    StrictHost {
         read: transfers,
         written: transfers,
         removes,
-        opened: Some(&opened),
-        created: Some(&created),
+        opened: Some(&asked.opened),
+        created: Some(&asked.created),
         ..StrictHost::over(rt)
+    }
+}
+
+// Returns whether the row has its result over the host, leaves these bytes at the path `old`, opens
+// and creates each of its files once, and synchronises none.
+fn is_asked_once(rt: &HostRuntime, row: &str, left: &[u8], removes: bool) -> Result<bool, Fail> {
+    let asked = Asked {
+        opened: Cell::new(0),
+        created: Cell::new(0),
+        synchronised: Cell::new(0),
     };
+    let host = counting(rt, &asked, removes);
     let is_right = is_answered(rt, &host, row, left)?;
     let words = words_of(rt.alloc(), row)?;
     let (reads, creates) = files_of(words.as_slice(), row);
     // Each row is run by both calls.
-    let is_once = opened.get() == 2 * reads && created.get() == 2 * creates;
-    Ok(is_right && is_once && synchronised.get() == 0)
+    let is_opened = asked.opened.get() == reads.saturating_mul(2);
+    let is_created = asked.created.get() == creates.saturating_mul(2);
+    Ok(is_right && is_opened && is_created && asked.synchronised.get() == 0)
 }
 
 // Each path is opened once. The second time it would be missing.
