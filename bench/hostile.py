@@ -3,6 +3,7 @@
 second twice the first.
 
 usage: bench/hostile.py [PLISTCONV] [--only NAME,..]   (./plistconv if no program is given)
+       bench/hostile.py [PLISTCONV] --worst            (what SECURITY.md says of the worst files)
 
 Time is processor time, the least of three runs, or of six if that of three misses a limit. The
 sizes take turns, so that other work on the machine slows both alike. A command may take at most 0.5
@@ -17,11 +18,15 @@ Each cell has the seconds for the larger file and, if it is not too short, the g
 divided by that of the file, or the nanoseconds for each byte written and their growth. A cell that
 misses a limit says so, a line after the table has its figures, and the status is 1. The answer is
 that of `lint`, and must be the one listed here.
+
+With --worst each command runs once on files whose values are at the limits, which are far larger
+than the files. Each cell has the seconds and the MB of memory.
 """
 import argparse
 import collections
 import os
 import shutil
+import struct
 import subprocess
 import sys
 import tempfile
@@ -111,6 +116,18 @@ FILES = {
     **rows(*collisions.TEXTS, refusers=("check",)),
 }
 REPEATERS = ("print", "openstep")
+
+# The worst files found, of values at the limits, and the commands that are measured on them.
+MEASURED = ("lint", "check", "print", "same", "binary1", "openstep")
+WORST = {
+    "keys in three orders": lambda: files.alike_keys(1_320_000, (WIDE,), 64, 64, 4000, 3),
+    "15,059,072 dates": lambda: files.nested_arrays(
+        [2] + [14] * 6, b"\x33" + struct.pack(">d", 1e-9 / 3)
+    ),
+    "an escaped string, 1,075,648 times": lambda: files.nested_arrays(
+        [2] + [14] * 5, files.head(0x60, 480) + b"\x20\x0e" * 480
+    ),
+}
 NO_RANDOM = "binary1 without random bytes"
 
 COMMANDS = {
@@ -241,25 +258,44 @@ def of_file(name, file, trials):
     return faults
 
 
+def limits(names, under, folder):
+    """Prints the table of these files, and returns how many limits are missed."""
+    heads(f"file | bytes | answer | {' | '.join(COMMANDS)}")
+    faults = []
+    for name in names:
+        paths = [(size, os.path.join(folder, str(size))) for size in SIZES]
+        trials = [Trial(*under, path, FILES[name].make(size)) for size, path in paths]
+        faults += of_file(name, FILES[name], trials)
+    print("", *(f"missed: {fault}" for fault in faults), sep="\n")
+    print(f"{len(faults)} limits are missed.")
+    return len(faults)
+
+
+def worst(under, folder):
+    """Prints the table of the worst files."""
+    heads(f"file | bytes | answer | {' | '.join(MEASURED)}")
+    for name, make in WORST.items():
+        trial, cells = Trial(*under, os.path.join(folder, "worst"), make()), []
+        for run in map(trial.run, MEASURED):
+            ended = f", status {run.status}" * (run.status > 1)
+            cells.append(f"{run.processor:.2f} s, {run.octets / 1e6:.0f} MB{ended}")
+        row(name, f"{trial.size('lint'):,}", trial.answer, *cells)
+    return 0
+
+
 def main():
     parser = argparse.ArgumentParser()
     parser.add_argument("program", nargs="?", default="./plistconv")
     parser.add_argument("--only", default="", help="names of files, with commas between")
+    parser.add_argument("--worst", action="store_true")
     arguments = parser.parse_args()
     names = arguments.only.split(",") if arguments.only else [*FILES]
     if unknown := set(names).difference(FILES):
         sys.exit(f"no such file: {', '.join(unknown)}")
-    heads(f"file | bytes | answer | {' | '.join(COMMANDS)}")
-    faults = []
     with tempfile.TemporaryDirectory() as folder:
         under = os.path.abspath(arguments.program), Measure(folder), without_random(folder)
-        for name in names:
-            paths = [(size, os.path.join(folder, str(size))) for size in SIZES]
-            trials = [Trial(*under, path, FILES[name].make(size)) for size, path in paths]
-            faults += of_file(name, FILES[name], trials)
-    print("", *(f"missed: {fault}" for fault in faults), sep="\n")
-    print(f"{len(faults)} limits are missed.")
-    return 1 if faults else 0
+        wrong = worst(under, folder) if arguments.worst else limits(names, under, folder)
+    return 1 if wrong else 0
 
 
 if __name__ == "__main__":

@@ -190,11 +190,12 @@ def overlapping_later(size):
 ASCII, WIDE = 0x50, 0x60
 
 
-def alike_keys(size, forms, overlapping):
-    """Returns an array of dictionaries with the same 16 long keys, each in an order of its own. The
-    keys are stored in these forms in turn, and leave what they begin with each a little later than
-    the one before. A dictionary of so many keys that overlap comes first, if there are any."""
-    count, length, width, chance = 16, 1000, 3, random.Random(16)
+def alike_keys(size, forms, overlapping, count=16, length=1000, orders=None):
+    """Returns an array of dictionaries with the same long keys, each in an order of its own, or in
+    so many orders in turn. The keys are stored in these forms in turn, and leave what they begin
+    with each a little later than the one before. A dictionary of so many keys that overlap comes
+    first, if there are any."""
+    width, chance = 3, random.Random(16)
     keys = []
     for place in range(count):
         form, units = forms[place % len(forms)], b"a" * (length - 20 * (count - place)) + b"b"
@@ -203,9 +204,16 @@ def alike_keys(size, forms, overlapping):
     made = (size - len(b"".join([*keys, *over]))) // (2 * width * count + 10)
     at = made + 2 + bool(over)
     lists = [range(at + count, at + count + overlapping)] * bool(over)
-    lists += [chance.sample(range(at, at + count), count) for _ in range(made)]
+    turns = [chance.sample(range(at, at + count), count) for _ in range(orders or made)]
+    lists += [turns[place % len(turns)] for place in range(made)]
     tables = [dictionary(one, at - 1, width) for one in lists]
     return joined([array(range(1, at - 1), width), *tables, b"Qx", *keys, *over], width)
+
+
+def nested_arrays(fans, item):
+    """Returns arrays in one another, each with so many references to the next, and the last with
+    references to the item."""
+    return joined([*(array([place] * fan, 1) for place, fan in enumerate(fans, 1)), item], 1)
 
 
 def agreeing_keys(size):
