@@ -32,10 +32,6 @@ is_invisible c =
     is_in_range 0xd800 0xdfff c
     || (not (c == 32) && (is_blank (general_category c) || is_default_ignorable_code_point c))
 
--- a printable ASCII character, a tab or a line end
-abbrev pub is_ascii_text : ℕ → Bool
-is_ascii_text unit = is_in_range 0x20 0x7e unit || (unit == 9 || (unit == 10 || unit == 13))
-
 -- A unit that is not part of a visible pair: as an escape, or as `\U` and four lower-case
 -- hexadecimal digits if it is invisible, or as itself in UTF-8.
 unfoldable pub printed_unit : ℕ → List ℕ
