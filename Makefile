@@ -66,6 +66,7 @@ bench: plistconv
 
 hostile: plistconv
 	python3 bench/hostile.py ./plistconv
+	python3 bench/hostile.py ./plistconv --worst
 	python3 bench/refusals.py ./plistconv
 	python3 bench/limits.py ./plistconv --large
 

@@ -214,8 +214,11 @@ fn token(kind: TokenKind, start: usize, end: usize) -> Token {
     Token { kind, start, end }
 }
 
-fn marks() -> [TokenKind; 7] {
-    variants!(TokenKind: BraceOpen BraceClose ParenOpen ParenClose Comma Semicolon Equals)
+fn marks_and_forms() -> ([TokenKind; 7], [Form; 2]) {
+    (
+        variants!(TokenKind: BraceOpen BraceClose ParenOpen ParenClose Comma Semicolon Equals),
+        variants!(Form: Binary1 OpenStep),
+    )
 }
 
 fn long_tokens(text: Utf16, octets: Vec<u8>) -> [TokenKind; 2] {
@@ -254,10 +257,6 @@ fn conversions<S: Source, W: Sink>(
     form: Form,
 ) -> Result<u64, Fault> {
     convert(alloc, from, to, form)
-}
-
-fn forms() -> [Form; 2] {
-    variants!(Form: Binary1 OpenStep)
 }
 
 fn lines(alloc: Global, path: &str, fault: &Fault) -> Result<String, AllocError> {
