@@ -42,10 +42,10 @@ COPY, CRATE, OPENSTEP = "read and write", "plist (Rust)", "openstep_plist"
 # The peer, the most time of the peer's, and the most memory of the input's. The time of texts varies
 # between runs, so their limits are in instructions: for each byte, and of those of a sixteenth. To
 # read and write `data` is to wait for memory, which other work takes too: ten runs on a busy machine
-# had 1.0 to 1.5, and 0.15 to 0.22 for `chinese`, 0.21 to 0.25 for `cyrillic`.
+# had 1.0 to 1.5, and for `keys` 0.17 to 0.23, `chinese` 0.15 to 0.22, `cyrillic` 0.21 to 0.29.
 TARGETS = {
     "mixed": (CRATE, 0.1, 3),
-    "keys": (CRATE, 0.22, 3.5),
+    "keys": (CRATE, 0.25, 3.5),
     "chinese": (CRATE, 0.25, 4),
     "cyrillic": (CRATE, 0.3, 4),
     "numbers": (CRATE, 0.12, 4),

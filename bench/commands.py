@@ -8,8 +8,8 @@ is far longer than they are. Time is processor time, the least of five runs in t
 a file with itself, and `write` writes as many bytes as `print` does. On some files a check may take
 0.6 of the time of a conversion, but 0.9 on that of keys, `same` 1.5 of that of `lint`, and a print
 twice that of a conversion. These are kept by the worst of ten runs on a busy machine, where one of
-two short times may be half as long again; else it is 0.67 and 1.2. A print may take 1 MiB more
-memory than `lint`, and as much beside either array.
+two short times may be half as long again; a run alone had 0.61 and 1.23. A print may take 1 MiB
+more memory than `lint`, and as much beside either array.
 
 The second table has prints of 30,000 strings of 117 units, in one script each. A unit of any script
 may take three times that of ASCII.

@@ -162,8 +162,8 @@ MEMORY = {
     "the last key repeats the first": Row(lambda: strings_file(16_000_000), "refused 14", 12),
     "short keys, then an error": Row(lambda: short_keys(800_000, b"="), "refused 30", 12),
     "too many items": Row(lambda: often(b"a,", 34_000_000, after=b")"), "refused 17", 4),
-    # (each key of four letters is an object of the draft and a row that is sorted, and a print keeps
-    # their order: it takes 18.3)
+    # (each key of four letters is an object of the draft and a row that is sorted; a print, which takes
+    # 18.3, keeps the text too, which a conversion frees)
     "short keys": Row(lambda: short_keys(800_000, b"}"), "", 19),
     "short keys that are not ASCII": Row(lambda: accented_keys(400_000), "", 12),
     "short dictionaries": Row(lambda: often(b"{a;},", 4_000_000, after=b")"), "", 16),
